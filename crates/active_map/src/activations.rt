@@ -1,5 +1,5 @@
 //! The activations that were begun, in a table: found by their numbers, and changed in place.
-ghost use Rattle.std.specs.Prelude.{◌≡◌, ◌+◌, ◌<◌, ◌++◌, ◌∷◌, ℕ, [], ◌==◌, ◌&&◌, Bool, Some, None, true, false, not, map, filter, find, length, option_copied, if◌then◌else◌, IfOk, OnOk, OnErr};
+ghost use Rattle.std.specs.Prelude.{◌≡◌, ◌+◌, ◌<◌, ◌++◌, ◌∷◌, ℕ, [], ◌==◌, ◌&&◌, Bool, Some, None, true, false, not, map, find, length, option_copied, if◌then◌else◌, IfOk, OnOk, OnErr};
 ghost use Rattle.std.specs.List.{filter_map, list_any};
 ghost use Rattle.std.specs.Map.Iter.{deref, ShowsInOrder};
 ghost use Rattle.history_standing.specs.Nodes as tree;
@@ -9,27 +9,22 @@ ghost use Rattle.history_standing.specs.Changes as changes;
 ghost use Rattle.history_standing.specs.Ends as ends;
 ghost use Rattle.history_standing.specs.Situations as situations;
 ghost use Rattle.history_standing.specs.Standings as stands;
-ghost use Rattle.history_standing.specs.Standings.{Standing as Stood};
 ghost use Rattle.history_standing.specs.Templates as configured;
 ghost use Rattle.active_map.specs.Endings.{ended};
 ghost use Rattle.active_map.specs.Made as changed;
-ghost use Rattle.active_map.specs.Live.{live};
 ghost use Rattle.active_map.specs.Tables.{is_leaving, is_moving};
+
+mod forgetting;
+mod letting_out;
 
 use crate::adapters::{has_changing, has_live, has_other, is_any_changing};
 use crate::by_id::{Index, add, numbers_of, only_one, remove};
 use crate::change::Change;
 use crate::ending::Ending;
-use crate::leaving::{
-    Leaving, enter, enter_ended, first_to_go, is_any_to_go, strike, strike_forgotten,
-};
-use crate::over::is_over;
-use crate::passing::{Passing, first_over, has_own, is_any_over};
-use crate::rows::{
-    Rows, count_moving, end_all, first_active, first_live, forget_ids, keep_live, let_all_out,
-    moves,
-};
-use history_standing::{Activation, Flight, Node, Phase};
+use crate::leaving::{Leaving, enter, enter_ended, strike};
+use crate::passing::{Passing, has_own};
+use crate::rows::{Rows, count_moving, end_all, first_active, first_live, moves};
+use history_standing::{Activation, Node, Phase};
 use poa_base::{Config, Name, Oid, WantMemory};
 use std::alloc::Global;
 use std::collections::btree_map::Values;
@@ -55,11 +50,8 @@ pub struct Activations {
     passing: Passing,
 }
 
-/// How many a command ends at most that are looked for by their numbers, one by one.
+/// How many are looked for at most by their numbers, one by one, before all are looked at.
 const FEW: usize = 4;
-
-/// Among how many numbers they are.
-const MANY: usize = 64;
 
 impl Model for Activations {
     ghost use Rattle.std.specs.Map.{values_of};
@@ -364,155 +356,5 @@ impl Activations {
             return self.end_one(number, Ending::Id(adapter, oid));
         }
         self.end(Ending::Id(adapter, oid))
-    }
-
-    /// Those that are to leave the map do. All are looked at.
-    fn let_out_all(&mut self, config: &Config, flights: &[Flight])
-        ensures { (s : Stood) → s.flights ≡ flights.now
-            → self.new ≡ record self.old { kept = map (ends.let_out config.now s) self.old.kept } }
-    {
-        if self.moving > 0 {
-            let_all_out(&mut self.rows, config, flights);
-            self.moving = count_moving(&self.rows);
-            self.passing.unsure();
-        }
-    }
-
-    /// Whether none of those that are leaving is to leave the map now.
-    fn has_none_to_go(&self, config: &Config, flights: &[Flight]) -> bool
-        ensures { result ≡ true → (s : Stood) → s.flights ≡ flights.now
-            → map (ends.let_out config.now s) self.now.kept ≡ self.now.kept }
-    {
-        !is_any_to_go(&self.leaving, &self.rows, config, flights)
-    }
-
-    /// One that is to leave the map does, where there is one.
-    fn let_one_out(&mut self, config: &Config, flights: &[Flight])
-        ensures forgotten { self.new.forgotten ≡ self.old.forgotten }
-        ensures kept { (s : Stood) → s.flights ≡ flights.now
-            → map (ends.let_out config.now s) self.new.kept
-            ≡ map (ends.let_out config.now s) self.old.kept }
-    {
-        if let Some(number) = first_to_go(&self.leaving, &self.rows, config, flights) {
-            let number = *number;
-            self.let_out_at(config, flights, number);
-        }
-    }
-
-    /// A few that are to leave the map do, where they are among few.
-    fn let_few_out(&mut self, config: &Config, flights: &[Flight])
-        ensures forgotten { self.new.forgotten ≡ self.old.forgotten }
-        ensures kept { (s : Stood) → s.flights ≡ flights.now
-            → map (ends.let_out config.now s) self.new.kept
-            ≡ map (ends.let_out config.now s) self.old.kept }
-    {
-        if self.leaving.len() > MANY {
-            return;
-        }
-        for _ in 0..FEW {
-            self.let_one_out(config, flights);
-        }
-    }
-
-    /// Those that are to leave the map do. All are looked at only where they may be many.
-    pub fn let_out(&mut self, config: &Config, flights: &[Flight])
-        ensures { (s : Stood) → s.flights ≡ flights.now
-            → self.new ≡ record self.old { kept = map (ends.let_out config.now s) self.old.kept } }
-    {
-        self.let_few_out(config, flights);
-        if !self.has_none_to_go(config, flights) {
-            self.let_out_all(config, flights);
-        }
-    }
-
-    /// That of a number leaves the map where it is to.
-    pub fn let_out_at(&mut self, config: &Config, flights: &[Flight], number: u32)
-        ensures { (s : Stood) → s.flights ≡ flights.now
-            → self.new ≡ record self.old {
-              kept = map
-                  (changes.at_number number (ends.let_out config.now s)) self.old.kept;
-            } }
-    {
-        self.change(number, Change::LetOut(config, flights));
-    }
-
-    /// That of a number is forgotten where it is over, but for its number.
-    pub fn forget_at(&mut self, config: &Config, number: u32)
-        ensures forgotten { self.new.forgotten ≡ self.old.forgotten
-            + length (filter (λ a. (a.number == number) && ends.is_over config.now a)
-            self.old.kept) }
-        ensures kept { self.new.kept
-            ≡ filter (λ a. not ((a.number == number) && ends.is_over config.now a)) self.old.kept }
-    {
-        let Some(activation) = self.rows.get(&number) else {
-            return;
-        };
-        if !is_over(config, activation) {
-            return;
-        }
-        self.moving -= moves(activation);
-        let oid = activation.oid.as_slice();
-        remove(&mut self.ids, activation.adapter, oid, number);
-        let _gone = self.rows.remove(&number);
-        strike(&mut self.leaving, number);
-        self.passing.strike(number);
-        self.forgotten += 1;
-    }
-
-    /// Those that are over are forgotten, but for their number. All are looked at.
-    fn forget_all(&mut self, config: &Config)
-        ensures forgotten { self.new.forgotten
-            ≡ self.old.forgotten + length (filter (ends.is_over config.now) self.old.kept) }
-        ensures kept { self.new.kept ≡ live config.now self.old.kept }
-    {
-        if self.moving > 0 {
-            forget_ids(&mut self.ids, &self.rows, config);
-            self.forgotten += keep_live(&mut self.rows, config);
-            strike_forgotten(&mut self.leaving, &self.rows);
-            self.moving = count_moving(&self.rows);
-            self.passing.renew(&self.rows);
-        }
-    }
-
-    /// Whether none is known to be over, of those that pass.
-    fn has_none_over(&self, config: &Config) -> bool
-        ensures { result ≡ true → list_any (ends.is_over config.now) self.now.kept ≡ false }
-    {
-        self.passing.is_whole && !is_any_over(&self.rows, config, self.passing.numbers.as_slice())
-    }
-
-    /// One that is over is forgotten, but for its number, where there is one.
-    fn forget_one(&mut self, config: &Config)
-        ensures live { live config.now self.new.kept ≡ live config.now self.old.kept }
-        ensures begun { self.new.forgotten + length self.new.kept
-            ≡ self.old.forgotten + length self.old.kept }
-    {
-        if let Some(number) = first_over(&self.rows, config, self.passing.numbers.as_slice()) {
-            let number = *number;
-            self.forget_at(config, number);
-        }
-    }
-
-    /// A few that are over are forgotten, but for their number.
-    fn forget_few(&mut self, config: &Config)
-        ensures live { live config.now self.new.kept ≡ live config.now self.old.kept }
-        ensures begun { self.new.forgotten + length self.new.kept
-            ≡ self.old.forgotten + length self.old.kept }
-    {
-        for _ in 0..FEW {
-            self.forget_one(config);
-        }
-    }
-
-    /// Those that are over are forgotten, but for their number. All are looked at only where they may be many.
-    pub fn forget(&mut self, config: &Config)
-        ensures forgotten { self.new.forgotten
-            ≡ self.old.forgotten + length (filter (ends.is_over config.now) self.old.kept) }
-        ensures kept { self.new.kept ≡ live config.now self.old.kept }
-    {
-        self.forget_few(config);
-        if !self.has_none_over(config) {
-            self.forget_all(config);
-        }
     }
 }

@@ -7,7 +7,7 @@ use Rattle.history_standing.specs.Arrivals.{connections}
 use Rattle.poa_history.specs.Legal.{IsOpen, is_filled, has_left}
 use Rattle.core_arrivals.specs.declared.tally.Tally.{Tally}
 use Rattle.poa_history.specs.declared.full.Full.{Full}
-use Rattle.core_arrivals.specs.Tallies.{IsTally, flag_of}
+use Rattle.core_arrivals.specs.Tallies.{TallyAgrees, flag_of}
 use Rattle.core_arrivals.proofs.Bounds.{filled_is}
 use Rattle.core_arrivals.proofs.Flags.{flag_more, flag_set, flag_past}
 use Rattle.core_arrivals.proofs.Staying.{staying_more, staying_less}
@@ -25,14 +25,14 @@ abbrev full_pair : Option Full → Option (ℕ × ℕ)
 full_pair o = option_map (λ f. (f.arrivals, f.bytes)) o
 
 -- a connection that doesn't stand among the flags hasn't left
-unmarked : (past : List Entry) (t : Tally) (conn : ℕ) → conn ≡ connections past → IsTally past t → has_left past conn ≡ false
+unmarked : (past : List Entry) (t : Tally) (conn : ℕ) → conn ≡ connections past → TallyAgrees past t → has_left past conn ≡ false
 unmarked past t conn next is =
     let len = is.entered in
     sym (is.leavers conn) ∙ flag_past t.left.items conn (omega (arith, next, len))
 
 pub entered_is : (past : List Entry) (t u : Tally) (conn : ℕ) → conn ≡ connections past → conn < 4000000 → IsSameBut t u
     → u.left.items ≡ t.left.items ++ false ∷ [] → u.staying ≡ (if conn == 0 then t.staying else min (t.staying + 1) (2 ^ 64 - 1))
-    → IsTally past t → IsTally (Entered conn ∷ past) u
+    → TallyAgrees past t → TallyAgrees (Entered conn ∷ past) u
 entered_is past t u conn next few same left staying_is is =
     record {
       entered = ap length left ∙ length-append t.left.items (false ∷ []) ∙ one_more (length t.left.items) (connections past) is.entered;
@@ -51,7 +51,7 @@ entered_is past t u conn next few same left staying_is is =
 
 pub left_is : (past : List Entry) (t u : Tally) (conn : ℕ) → IsOpen past conn → IsSameBut t u
     → (conn < length t.left.items → u.left.items ≡ slice_set t.left.items conn true) → u.staying ≡ (if conn == 0 then t.staying else t.staying - 1)
-    → IsTally past t → IsTally (Left conn ∷ past) u
+    → TallyAgrees past t → TallyAgrees (Left conn ∷ past) u
 left_is past t u conn open_ same marked staying_is is =
     let below : conn < length t.left.items = subst (λ n. conn < n) (sym is.entered) open_.entered in
     let left : u.left.items ≡ slice_set t.left.items conn true = marked below in
@@ -68,7 +68,7 @@ left_is past t u conn open_ same marked staying_is is =
     }
 
 -- the run was never filled
-pub unfilled_is : (h : List Entry) (t : Tally) → IsTally h t → is_none t.filled ≡ not (is_filled h)
+pub unfilled_is : (h : List Entry) (t : Tally) → TallyAgrees h t → is_none t.filled ≡ not (is_filled h)
 unfilled_is h t is = none_mapped t.filled ∙ ap is_none is.full ∙ filled_is h
   where
     none_mapped : (o : Option Full) → is_none o ≡ is_none (full_pair o)

@@ -9,11 +9,11 @@ use Rattle.poa_base.specs.declared.Call.{Call}
 use Rattle.poa_base.specs.declared.Entry.{Entry}
 use Rattle.poa_base.specs.declared.Entry.TheVariants.{Entered, Arrive, Filled, Left, Collect, Admit, Tried, Incarnated, Run, Done, TakeOut, Etherealized, Abandon}
 use Rattle.history_standing.specs.Arrivals.{arrivals, call_of, conn_of}
-use Rattle.core_arrivals.specs.Placed.{IsPlaceOf, KnowsCalls, entry_of, call_in, conn_in, arrives}
+use Rattle.core_arrivals.specs.Placed.{IsPlaceOf, CallsAgree, entry_of, call_in, conn_in, arrives}
 use Rattle.history_standing.proofs.CallsKept.{by_arrival, call_beyond, call_kept, conn_beyond, conn_kept}
 
 -- what the table tells of each call
-module _ (h : List Entry) (places : List ℕ) (knows : KnowsCalls h places) (r : ℕ) where
+module _ (h : List Entry) (places : List ℕ) (knows : CallsAgree h places) (r : ℕ) where
   told : {A : Type 0} (read : Option Entry → Option A) (is : Option A) → ((place : ℕ) → IsPlaceOf h r place → read (slice_get (reverse h) place) ≡ is)
       → (arrivals h ≤ r → is ≡ read None) → read (entry_of (reverse h) places r) ≡ is
   told read is within beyond =
@@ -58,7 +58,7 @@ same_arrivals e h other =
     by_arrival h (λ k. arrives k ≡ false → arrivals (k ∷ h) ≡ arrivals h) (λ conn size call none. absurd (true≢false none)) (λ k leaves none. leaves.arrived)
     e other
 
-pub calls_kept : (e : Entry) (h : List Entry) (places : List ℕ) → arrives e ≡ false → KnowsCalls h places → KnowsCalls (e ∷ h) places
+pub calls_kept : (e : Entry) (h : List Entry) (places : List ℕ) → arrives e ≡ false → CallsAgree h places → CallsAgree (e ∷ h) places
 calls_kept e h places other knows =
     record {
       counted = knows.counted ∙ sym (same_arrivals e h other);
@@ -68,8 +68,8 @@ calls_kept e h places other knows =
           (found.0, found.1, place_kept e h r found.0 low found.2));
     }
 
-pub calls_more : (conn size : ℕ) (call : Call) (h : List Entry) (places : List ℕ) → KnowsCalls h places
-    → KnowsCalls (Arrive conn size call ∷ h) (places ++ length h ∷ [])
+pub calls_more : (conn size : ℕ) (call : Call) (h : List Entry) (places : List ℕ) → CallsAgree h places
+    → CallsAgree (Arrive conn size call ∷ h) (places ++ length h ∷ [])
 calls_more conn size call h places knows =
     record {
       counted = (let long = knows.counted in let more = length-append places (length h ∷ []) in omega (arith, long, more));
@@ -103,7 +103,7 @@ calls_more conn size call h places knows =
       },
     )
 
-pub no_calls : KnowsCalls [] []
+pub no_calls : CallsAgree [] []
 no_calls = record { counted = refl; placed = λ r less. absurd (omega (arith, less)) }
 
 pub not_arriving : (e : Entry) → ((conn size : ℕ) (call : Call) → e ≡ Arrive conn size call → ⊥) → arrives e ≡ false

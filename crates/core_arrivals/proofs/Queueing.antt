@@ -24,7 +24,7 @@ use Rattle.poa_history.proofs.TurnTells.{admission_is}
 use Rattle.poa_history.specs.Numbers.{below}
 use Rattle.core_arrivals.specs.Numbers.{inserted, without}
 use Rattle.poa_history.specs.Waiting.{is_waiting}
-use Rattle.core_arrivals.specs.Queued.{IsQueue}
+use Rattle.core_arrivals.specs.Queued.{QueueAgrees}
 use Rattle.core_arrivals.specs.declared.queue.Queue.{Queue}
 use Rattle.poa_history.proofs.Numbers.{counted}
 use Rattle.core_arrivals.proofs.Numbers.{same_below, one_less, one_more, any_kept}
@@ -51,12 +51,12 @@ abbrev waits_as : (Option Call → Bool) → List Entry → ℕ → Bool
 waits_as kind h r = is_unadmitted h r && kind (call_of h r)
 
 -- a call arrives
-pub arrived : (conn size : ℕ) (call : Call) (past : List Entry) (old new : Queue) → IsQueue past old
+pub arrived : (conn size : ℕ) (call : Call) (past : List Entry) (old new : Queue) → QueueAgrees past old
     → new.unadmitted.items ≡ old.unadmitted.items ++ arrivals past ∷ []
     → new.messages.items ≡ (if is_message (Some call) then old.messages.items ++ arrivals past ∷ [] else old.messages.items)
     → new.lines.items ≡ (if not (is_message (Some call)) then old.lines.items ++ arrivals past ∷ [] else old.lines.items)
     → new.crowded.items ≡ (if nat_le 65536 (length old.messages.items) then old.crowded.items ++ arrivals past ∷ [] else old.crowded.items)
-    → IsQueue (Arrive conn size call ∷ past) new
+    → QueueAgrees (Arrive conn size call ∷ past) new
 arrived conn size call past old new is unadmitted messages lines crowded =
     record {
       unadmitted_are =
@@ -113,10 +113,10 @@ swapped true false false = refl
 swapped false b m = refl
 
 pub admits : (c : Config) (run limit : ℕ) (past : List Entry) (w r : ℕ) (v : Verdict) (old new : Queue) → MayFollow c run limit past (Admit w r v)
-    → IsQueue past old
+    → QueueAgrees past old
     → new.unadmitted.items ≡ without r old.unadmitted.items → new.messages.items ≡ without r old.messages.items → new.lines.items ≡ without r old.lines.items
     → new.crowded.items ≡ old.crowded.items
-    → IsQueue (Admit w r v ∷ past) new
+    → QueueAgrees (Admit w r v ∷ past) new
 admits c run limit past w r v old new may is unadmitted messages lines crowded =
     record {
       unadmitted_are =
@@ -138,12 +138,12 @@ admits c run limit past w r v old new may is unadmitted messages lines crowded =
         ∙ swapped (is_none (admitted past k)) (not (k == r)) (kind (call_of past k))))
 
 -- an arrival goes back to its place
-pub put_back : (c : Config) (run : ℕ) (past : List Entry) (w n r : ℕ) (old new : Queue) → IsManned c run past → stage past w ≡ Trying r → IsQueue past old
+pub put_back : (c : Config) (run : ℕ) (past : List Entry) (w n r : ℕ) (old new : Queue) → IsManned c run past → stage past w ≡ Trying r → QueueAgrees past old
     → new.unadmitted.items ≡ inserted r old.unadmitted.items
     → new.messages.items ≡ (if is_message (call_of past r) then inserted r old.messages.items else old.messages.items)
     → new.lines.items ≡ (if not (is_message (call_of past r)) then inserted r old.lines.items else old.lines.items)
     → new.crowded.items ≡ old.crowded.items
-    → IsQueue (Tried w (Yes n) ∷ past) new
+    → QueueAgrees (Tried w (Yes n) ∷ past) new
 put_back c run past w n r old new manned trying is unadmitted messages lines crowded =
     record {
       unadmitted_are =
@@ -202,7 +202,7 @@ changes_queue (Admit w r v) = true
 changes_queue (Tried w (Yes n)) = true
 changes_queue e = false
 
-pub kept : (e : Entry) (past : List Entry) (q : Queue) → changes_queue e ≡ false → IsQueue past q → IsQueue (e ∷ past) q
+pub kept : (e : Entry) (past : List Entry) (q : Queue) → changes_queue e ≡ false → QueueAgrees past q → QueueAgrees (e ∷ past) q
 kept (Arrive conn size call) past q other is = absurd (true≢false other)
 kept (Admit w r v) past q other is = absurd (true≢false other)
 kept (Tried w (Yes n)) past q other is = absurd (true≢false other)

@@ -12,7 +12,7 @@ use Rattle.poa_history.specs.Legal.{MayFollow}
 use Rattle.history_standing.specs.Stages.{stage}
 use Rattle.poa_history.specs.Entries.{stage_at}
 use Rattle.poa_history.proofs.StagesFrom.{maker, stage_other}
-use Rattle.core_arrivals.specs.Begun.{worker_of, AreStages}
+use Rattle.core_arrivals.specs.Begun.{worker_of, StagesAgree}
 
 maker_is : (e : Entry) → maker e ≡ worker_of e
 maker_is (Entered conn) = refl
@@ -29,7 +29,7 @@ maker_is (TakeOut w n x) = refl
 maker_is (Etherealized w x y) = refl
 maker_is (Abandon w) = refl
 
-pub stages_kept : (e : Entry) (past : List Entry) (stages : List Stage) → worker_of e ≡ None → AreStages past stages → AreStages (e ∷ past) stages
+pub stages_kept : (e : Entry) (past : List Entry) (stages : List Stage) → worker_of e ≡ None → StagesAgree past stages → StagesAgree (e ∷ past) stages
 stages_kept e past stages none are =
     record {
       each = are.each;
@@ -37,7 +37,7 @@ stages_kept e past stages none are =
     }
 
 pub stages_set : (e : Entry) (past : List Entry) (stages : List Stage) (v : ℕ) (next : Stage) → worker_of e ≡ Some v → (v < 16 → next ≡ stage (e ∷ past) v)
-    → AreStages past stages → AreStages (e ∷ past) (slice_set stages v next)
+    → StagesAgree past stages → StagesAgree (e ∷ past) (slice_set stages v next)
 stages_set e past stages v next by is are =
     record {
       each = length-set stages v next ∙ are.each;

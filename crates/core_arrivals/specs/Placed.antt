@@ -1,5 +1,5 @@
 -- Where in the journal each call arrived.
-use Rattle.std.specs.Prelude.{◌≡◌, ℕ, ◌<◌, Bool, true, false, List, length, reverse, Option, Some, None}
+use Rattle.std.specs.Prelude.{◌≡◌, ℕ, ◌<◌, Bool, true, false, List, ◌∷◌, length, reverse, Option, Some, None}
 use Rattle.std.specs.List.{slice_get}
 use Rattle.poa_base.specs.declared.Call.{Call}
 use Rattle.poa_base.specs.declared.Entry.{Entry}
@@ -15,7 +15,7 @@ pub record IsPlaceOf (h : List Entry) (r place : ℕ) : Type 0 where
   pub call_is : call_of h r ≡ Some call
   pub conn_is : conn_of h r ≡ Some conn
 
-pub record KnowsCalls (h : List Entry) (places : List ℕ) : Type 0 where
+pub record CallsAgree (h : List Entry) (places : List ℕ) : Type 0 where
   pub counted : length places ≡ arrivals h
   pub placed : (r : ℕ) → r < arrivals h → (place : ℕ) × (slice_get places r ≡ Some place) × IsPlaceOf h r place
 
@@ -35,3 +35,7 @@ conn_in e = None
 abbrev pub arrives : Entry → Bool
 arrives (Arrive conn size call) = true
 arrives e = false
+
+-- the table took in an entry, which is at that place of the journal
+abbrev pub CallsFollow : ℕ → Entry → List ℕ → List ℕ → Type 0
+CallsFollow place e old new = (past : List Entry) → place ≡ length past → CallsAgree past old → CallsAgree (e ∷ past) new

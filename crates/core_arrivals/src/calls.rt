@@ -1,5 +1,5 @@
 //! Where in the journal each call arrived.
-ghost use Rattle.std.specs.Prelude.{◌≡◌, [], ◌∷◌, ◌<◌, ℕ, true, List, length, Some, None, reverse, option_copied, option_map, vec_len, vec_capacity, IfOk, IsOk, OnOk};
+ghost use Rattle.std.specs.Prelude.{◌≡◌, [], ◌<◌, ℕ, true, Some, None, reverse, option_copied, option_map, vec_len, vec_capacity, IfOk, IsOk, OnOk};
 ghost use Rattle.std.specs.List.{slice_get};
 ghost use Rattle.poa_base.specs.declared.Entry.{Entry};
 ghost use Rattle.journal_entries.specs.Rows.{seen};
@@ -7,7 +7,7 @@ ghost use Rattle.history_standing.specs.Arrivals as arrived;
 ghost use Rattle.poa_history.specs.Entries as made;
 ghost use Rattle.core_arrivals.specs.Queued as queued;
 ghost use Rattle.core_arrivals.specs.Placed as placed;
-ghost use Rattle.core_arrivals.specs.Placed.{KnowsCalls};
+ghost use Rattle.core_arrivals.specs.Placed.{CallsAgree, CallsFollow};
 
 use history_standing::Stage;
 use journal_entries::{Entries, EntryView, Row};
@@ -23,7 +23,7 @@ pub struct Calls {
 
 /// The table of a journal that is empty.
 pub fn none(alloc: Global) -> Calls
-    ensures { KnowsCalls [] result.places.items }
+    ensures { CallsAgree [] result.places.items }
 {
     Calls {
         places: Vec::new(alloc),
@@ -62,7 +62,7 @@ fn conn_in(entry: Option<EntryView<'_>>) -> Option<u32>
 
 /// The call of an arrival.
 pub fn call<'a>(entries: &'a Entries, calls: &Calls, arrival: u64) -> Option<&'a Call>
-    ensures { KnowsCalls (reverse entries.now.items) calls.now.places.items
+    ensures { CallsAgree (reverse entries.now.items) calls.now.places.items
         → option_copied result ≡ arrived.call_of (reverse entries.now.items) arrival }
 {
     call_in(entry_of(entries, &calls.places, arrival))
@@ -70,7 +70,7 @@ pub fn call<'a>(entries: &'a Entries, calls: &Calls, arrival: u64) -> Option<&'a
 
 /// The connection of an arrival.
 pub fn conn(entries: &Entries, calls: &Calls, arrival: u64) -> Option<u32>
-    ensures { KnowsCalls (reverse entries.now.items) calls.now.places.items
+    ensures { CallsAgree (reverse entries.now.items) calls.now.places.items
         → result ≡ arrived.conn_of (reverse entries.now.items) arrival }
 {
     conn_in(entry_of(entries, &calls.places, arrival))
@@ -78,7 +78,7 @@ pub fn conn(entries: &Entries, calls: &Calls, arrival: u64) -> Option<u32>
 
 /// The call that an entry admits.
 pub fn call_admitted<'a>(entries: &'a Entries, calls: &Calls, entry: &Entry) -> Option<&'a Call>
-    ensures { KnowsCalls (reverse entries.now.items) calls.now.places.items
+    ensures { CallsAgree (reverse entries.now.items) calls.now.places.items
         → option_copied result ≡ made.call_admitted (reverse entries.now.items) entry.now }
 {
     match entry {
@@ -89,7 +89,7 @@ pub fn call_admitted<'a>(entries: &'a Entries, calls: &Calls, entry: &Entry) -> 
 
 /// The call of an arrival, where there is one.
 fn call_at<'a>(entries: &'a Entries, calls: &Calls, arrival: Option<u64>) -> Option<&'a Call>
-    ensures { KnowsCalls (reverse entries.now.items) calls.now.places.items
+    ensures { CallsAgree (reverse entries.now.items) calls.now.places.items
         → option_copied result
         ≡ elim arrival [ Some r ↦ arrived.call_of (reverse entries.now.items) r | None ↦ None ] }
 {
@@ -107,7 +107,7 @@ pub fn call_tried<'a>(
     entry: &Entry,
     stage: Stage,
 ) -> Option<&'a Call>
-    ensures { KnowsCalls (reverse entries.now.items) calls.now.places.items
+    ensures { CallsAgree (reverse entries.now.items) calls.now.places.items
         → stage ≡ made.stage_at (reverse entries.now.items) entry.now
         → option_copied result ≡ queued.call_tried (reverse entries.now.items) entry.now }
 {
@@ -133,8 +133,7 @@ pub fn reserve(calls: &mut Calls) -> Result<(), WantMemory>
 pub fn advance(entry: &Entry, place: usize, calls: &mut Calls)
     requires { placed.arrives entry.now ≡ true
         → vec_len calls.old.places < vec_capacity calls.old.places }
-    ensures { (past : List Entry) → place ≡ length past → KnowsCalls past calls.old.places.items
-        → KnowsCalls (entry.now ∷ past) calls.new.places.items }
+    ensures { CallsFollow place entry.now calls.old.places.items calls.new.places.items }
 {
     if let Entry::Arrive { .. } = entry {
         calls.places.push_reserved(place);

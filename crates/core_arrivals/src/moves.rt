@@ -1,13 +1,11 @@
 //! What each entry of a history adds to the tally.
-ghost use Rattle.std.specs.Prelude.{◌≡◌, ◌∷◌, ◌+◌, ◌-◌, ◌^◌, ◌<◌, ◌≤◌, ◌==◌, ℕ, List, length, min, true, if◌then◌else◌, option_copied, slice_set};
-ghost use Rattle.poa_base.specs.declared.Config.{Config};
-ghost use Rattle.poa_base.specs.declared.Entry.{Entry as EntryOf};
+ghost use Rattle.std.specs.Prelude.{◌≡◌, ◌∷◌, ◌+◌, ◌-◌, ◌^◌, ◌<◌, ◌==◌, length, min, true, if◌then◌else◌, option_copied, slice_set};
 ghost use Rattle.poa_base.specs.declared.Entry.TheVariants.{Entered, Arrive, Filled, Left, Admit, Abandon};
 ghost use Rattle.history_standing.specs.Arrivals as calls;
 ghost use Rattle.poa_history.specs.Legal as legal;
 ghost use Rattle.poa_history.specs.Leaving as leaving;
 ghost use Rattle.core_arrivals.specs.Tallies as tallies;
-ghost use Rattle.core_arrivals.specs.Tallies.{IsTally, HasRoomFor, HasRoomForOne};
+ghost use Rattle.core_arrivals.specs.Tallies.{HasRoomFor, HasRoomForOne, TallyTakes, TallyTakesAfter};
 
 use crate::tally::Tally;
 use poa_base::{Call, Command, Entry, Verdict};
@@ -70,9 +68,7 @@ fn mark(conn: u32, left: &mut Vec<bool>)
 /// A connection enters.
 fn enter(conn: u32, tally: &mut Tally)
     requires { HasRoomForOne tally.old }
-    ensures { (past : List EntryOf) → conn ≡ calls.connections past → conn < 4000000
-        → IsTally past tally.old
-        → IsTally (Entered conn ∷ past) tally.new }
+    ensures { tallies.TallyEnters conn tally.old tally.new }
 {
     tally.staying = with_one(conn, tally.staying);
     tally.left.push_reserved(false);
@@ -80,9 +76,8 @@ fn enter(conn: u32, tally: &mut Tally)
 
 /// A call arrives.
 fn arrive(conn: u32, size: u64, call: &Call, tally: &mut Tally)
-    ensures { (past : List EntryOf) → tallies.AreFew (Arrive conn size call.now ∷ past)
-        → IsTally past tally.old
-        → IsTally (Arrive conn size call.now ∷ past) tally.new }
+    ensures { TallyTakesAfter (λ past. tallies.AreFew (Arrive conn size call.now ∷ past))
+        (Arrive conn size call.now) tally.old tally.new }
 {
     tally.arrivals = tally.arrivals.saturating_add(1);
     tally.bytes = tally.bytes.saturating_add(size);
@@ -91,8 +86,7 @@ fn arrive(conn: u32, size: u64, call: &Call, tally: &mut Tally)
 
 /// A call is refused, since the run takes no more.
 fn fill(conn: u32, size: u64, tally: &mut Tally)
-    ensures { (past : List EntryOf) → IsTally past tally.old
-        → IsTally (Filled conn size ∷ past) tally.new }
+    ensures { TallyTakes (Filled conn size) tally.old tally.new }
 {
     tally.filled = Some(Full {
         arrivals: tally.arrivals,
@@ -102,8 +96,7 @@ fn fill(conn: u32, size: u64, tally: &mut Tally)
 
 /// A connection leaves.
 fn leave(conn: u32, tally: &mut Tally)
-    ensures { (past : List EntryOf) → legal.IsOpen past conn → IsTally past tally.old
-        → IsTally (Left conn ∷ past) tally.new }
+    ensures { TallyTakesAfter (λ past. legal.IsOpen past conn) (Left conn) tally.old tally.new }
 {
     tally.staying = without_one(conn, tally.staying);
     mark(conn, &mut tally.left);
@@ -111,17 +104,15 @@ fn leave(conn: u32, tally: &mut Tally)
 
 /// A call is admitted, whatever it is answered.
 fn admit(worker: u32, arrival: u64, verdict: &Verdict, call: Option<&Call>, tally: &mut Tally)
-    ensures { (past : List EntryOf) → option_copied call.entry ≡ calls.call_of past arrival
-        → IsTally past tally.old
-        → IsTally (Admit worker arrival verdict.now ∷ past) tally.new }
+    ensures { TallyTakesAfter (λ past. option_copied call.entry ≡ calls.call_of past arrival)
+        (Admit worker arrival verdict.now) tally.old tally.new }
 {
     tally.shut = is_shut_by(call) || tally.shut;
 }
 
 /// A worker gives the run up; the first one is remembered.
 fn give_up(worker: u32, tally: &mut Tally)
-    ensures { (past : List EntryOf) → IsTally past tally.old
-        → IsTally (Abandon worker ∷ past) tally.new }
+    ensures { TallyTakes (Abandon worker) tally.old tally.new }
 {
     tally.given_up = tally.given_up.or(Some(worker));
 }
@@ -129,10 +120,7 @@ fn give_up(worker: u32, tally: &mut Tally)
 /// Takes in an entry, with the call of the arrival that it admits. Takes no memory.
 pub fn advance(entry: &Entry, call: Option<&Call>, tally: &mut Tally)
     requires { HasRoomFor entry.now tally.old }
-    ensures { (c : Config) (run limit : ℕ) (past : List EntryOf)
-        → legal.IsLegal c run limit (entry.now ∷ past) → limit ≤ 4000000
-        → option_copied call.entry ≡ tallies.call_admitted past entry.now → IsTally past tally.old
-        → IsTally (entry.now ∷ past) tally.new }
+    ensures { tallies.TallyFollows entry.now (option_copied call.entry) tally.old tally.new }
 {
     match entry {
         Entry::Entered { conn } => enter(*conn, tally),

@@ -1,7 +1,6 @@
 //! The tally of a run.
-ghost use Rattle.std.specs.Prelude.{◌≡◌, [], List, OnOk};
-ghost use Rattle.poa_base.specs.declared.Entry.{Entry};
-ghost use Rattle.core_arrivals.specs.Tallies.{IsTally, HasRoomForOne};
+ghost use Rattle.std.specs.Prelude.{◌≡◌, [], OnOk};
+ghost use Rattle.core_arrivals.specs.Tallies.{TallyAgrees, HasRoomForOne, TallyStays};
 
 use poa_base::WantMemory;
 use poa_history::Full;
@@ -30,7 +29,7 @@ pub struct Tally {
 
 /// The tally of a run that hasn't begun. Takes no memory.
 pub fn none(alloc: Global) -> Tally
-    ensures { IsTally [] result }
+    ensures { TallyAgrees [] result }
 {
     Tally {
         left: Vec::new(alloc),
@@ -47,7 +46,7 @@ pub fn none(alloc: Global) -> Tally
 /// Makes room for a connection; all else is as it was.
 pub fn reserve(tally: &mut Tally) -> Result<(), WantMemory>
     ensures room { OnOk result (HasRoomForOne tally.new) }
-    ensures same { (h : List Entry) → IsTally h tally.old → IsTally h tally.new }
+    ensures same { TallyStays tally.old tally.new }
 {
     tally.left.try_reserve(1)?;
     Ok(())

@@ -1,13 +1,11 @@
 //! What each worker has begun, and which of them gave up.
-ghost use Rattle.std.specs.Prelude.{◌≡◌, ◌∷◌, ◌<◌, ℕ, [], true, List, slice_index_or, slice_set, IfOk};
-ghost use Rattle.poa_base.specs.declared.Config.{Config};
+ghost use Rattle.std.specs.Prelude.{◌≡◌, ◌<◌, [], true, slice_index_or, slice_set, IfOk};
 ghost use Rattle.poa_base.specs.declared.Entry.{Entry};
 ghost use Rattle.history_standing.specs.declared.stage.Stage.TheVariants as stage_kinds;
-ghost use Rattle.poa_history.specs.Legal.{MayFollow};
 ghost use Rattle.history_standing.specs.Stages as history;
 ghost use Rattle.poa_history.specs.Entries as entries;
 ghost use Rattle.core_arrivals.specs.Begun as tables;
-ghost use Rattle.core_arrivals.specs.Begun.{AreStages, AreAbandoned, KnowsWorkers};
+ghost use Rattle.core_arrivals.specs.Begun.{WorkersAgree, WorkersTell};
 
 use history_standing::Stage;
 use poa_base::{Entry, WantMemory};
@@ -23,7 +21,7 @@ pub struct Workers {
 
 /// The workers before the first entry.
 pub fn all_free(alloc: Global) -> Result<Workers, WantMemory>
-    ensures { IfOk result (λ workers. KnowsWorkers [] workers) }
+    ensures { IfOk result (λ workers. WorkersAgree [] workers) }
 {
     Ok(Workers {
         stages: vec![in alloc; Stage::Free; 16]?,
@@ -34,8 +32,7 @@ pub fn all_free(alloc: Global) -> Result<Workers, WantMemory>
 /// What a worker has begun and not ended.
 pub fn stage(workers: &Workers, worker: u32) -> Stage
     ensures there { result ≡ slice_index_or workers.now.stages.items worker stage_kinds.Free }
-    ensures begun { (h : List Entry) → worker < 16 → KnowsWorkers h workers.now
-        → result ≡ history.stage h worker }
+    ensures begun { WorkersTell worker workers.now (λ h. result ≡ history.stage h worker) }
 {
     match workers.stages.get(worker as usize) {
         Some(stage) => *stage,
@@ -45,8 +42,7 @@ pub fn stage(workers: &Workers, worker: u32) -> Stage
 
 /// Whether an Abandon of the worker stands.
 pub fn is_abandoned(workers: &Workers, worker: u32) -> bool
-    ensures { (h : List Entry) → worker < 16 → KnowsWorkers h workers.now
-        → result ≡ history.is_abandoned h worker }
+    ensures { WorkersTell worker workers.now (λ h. result ≡ history.is_abandoned h worker) }
 {
     match workers.abandoned.get(worker as usize) {
         Some(abandoned) => *abandoned,
@@ -72,9 +68,8 @@ fn worker_of(entry: &Entry) -> Option<u32>
 
 /// What the worker of an entry, where a worker makes it, has begun before.
 pub fn stage_at(workers: &Workers, entry: &Entry) -> Stage
-    ensures { (c : Config) (run limit : ℕ) (past : List Entry)
-        → MayFollow c run limit past entry.now → KnowsWorkers past workers.now
-        → result ≡ entries.stage_at past entry.now }
+    ensures { tables.WorkersTellBefore entry.now workers.now
+        (λ past. result ≡ entries.stage_at past entry.now) }
 {
     match worker_of(entry) {
         Some(worker) => stage(workers, worker),
@@ -102,8 +97,8 @@ fn set_abandoned(flags: &mut Vec<bool>, worker: u32)
 
 /// What the workers have begun after an entry.
 fn advance_stages(entry: &Entry, workers: &mut Workers)
-    ensures stages { (past : List Entry) → AreStages past workers.old.stages.items
-        → AreStages (entry.now ∷ past) workers.new.stages.items }
+    ensures stages { tables.StagesFollow entry.now workers.old.stages.items
+        workers.new.stages.items }
     ensures abandoned { workers.new.abandoned.items ≡ workers.old.abandoned.items }
 {
     if let Some(worker) = worker_of(entry) {
@@ -114,8 +109,7 @@ fn advance_stages(entry: &Entry, workers: &mut Workers)
 
 /// Which workers gave up after an entry.
 fn advance_abandoned(entry: &Entry, flags: &mut Vec<bool>)
-    ensures { (past : List Entry) → AreAbandoned past flags.old.items
-        → AreAbandoned (entry.now ∷ past) flags.new.items }
+    ensures { tables.FlagsFollow entry.now flags.old.items flags.new.items }
 {
     if let Entry::Abandon { worker } = entry {
         set_abandoned(flags, *worker);
@@ -124,8 +118,7 @@ fn advance_abandoned(entry: &Entry, flags: &mut Vec<bool>)
 
 /// Takes in an entry of the journal. Takes no memory.
 pub fn advance(entry: &Entry, workers: &mut Workers)
-    ensures { (past : List Entry) → KnowsWorkers past workers.old
-        → KnowsWorkers (entry.now ∷ past) workers.new }
+    ensures { tables.WorkersFollow entry.now workers.old workers.new }
 {
     advance_stages(entry, workers);
     advance_abandoned(entry, &mut workers.abandoned);

@@ -1,7 +1,7 @@
 -- The settings tell the reply that the history fixes.
 use Rattle.std.specs.Prelude.{◌≡◌, ℕ, List, [], ◌∷◌, ◌++◌, Option, Some, None, refl}
 use Rattle.std.proofs.Common.{ap, ap₂}
-use Rattle.core_settings.specs.Told.{Tells, endpoint_in}
+use Rattle.core_settings.specs.Told.{SettingsAgree, endpoint_in}
 use Rattle.core_settings.specs.declared.settings.Settings.{Settings}
 use Rattle.poa_base.specs.declared.Attempt.{Attempt}
 use Rattle.poa_base.specs.declared.Attempt.TheVariants.{Yes, No, Raised, Dying}
@@ -21,7 +21,7 @@ forward_same f g same above [] = same above
 forward_same f g same above (x ∷ p) =
     ap₂ (λ deep here. elim deep [ Some found ↦ Some found | None ↦ here ]) (forward_same f g same (above ++ x ∷ []) p) (same above)
 
-pub tried_told : (c : Config) (s : Settings) (past : List Entry) → Tells c past s → (call : Option Call) (answer : Attempt)
+pub tried_told : (c : Config) (s : Settings) (past : List Entry) → SettingsAgree c past s → (call : Option Call) (answer : Attempt)
     → reply_tried c s call answer ≡ replies.reply_tried c past call answer
 tried_told c s past tells call answer = by_answer answer
   where

@@ -1,6 +1,6 @@
 -- An entry comes after a history, with what stands about the arrival that it speaks of.
 use Rattle.std.specs.Prelude.{◌≡◌, ℕ, List, Option, Some, option_and_then}
-use Rattle.core_settings.specs.Told.{Tells}
+use Rattle.core_settings.specs.Told.{SettingsAgree}
 use Rattle.core_settings.specs.declared.settings.Settings.{Settings}
 use Rattle.poa_base.specs.declared.Call.{Call}
 use Rattle.poa_base.specs.declared.Config.{Config}
@@ -36,5 +36,5 @@ pub record Comes (c : Config) (run : ℕ) (opened : Stored) (past : List Entry) 
   pub manned : IsManned c run past
   pub at_stage : begun ≡ stage_at past e
   pub call_is : call ≡ call_at past e
-  pub told : Tells c past settings
+  pub told : SettingsAgree c past settings
   pub ran : HasOutcome c run opened past e outcome

@@ -1,6 +1,8 @@
 -- The replies that are decided, and not collected.
-use Rattle.std.specs.Prelude.{◌≡◌, ℕ, ◌<◌, ◌==◌, Bool, true, false, not, ◌&&◌, List, [], ◌∷◌, ◌++◌, map, filter, Option, Some, None, option_map, if◌then◌else◌}
+use Rattle.std.specs.Prelude.{◌≡◌, ℕ, ◌<◌, ◌==◌, Bool, true, false, not, ◌&&◌, List, [], ◌∷◌, ◌++◌, map, filter, Option, Some, None, option_map, if◌then◌else◌, Result, IfOk}
+use Rattle.poa_base.specs.declared.Call.{Call}
 use Rattle.poa_base.specs.declared.Config.{Config}
+use Rattle.poa_base.specs.declared.Outcome.{Outcome}
 use Rattle.poa_base.specs.declared.Reply.{Reply}
 use Rattle.poa_base.specs.declared.Reply.TheVariants.{Answer as AnswerReply}
 use Rattle.poa_base.specs.declared.Answer.TheVariants.{Good}
@@ -8,8 +10,11 @@ use Rattle.poa_base.specs.declared.Entry.{Entry}
 use Rattle.history_standing.specs.Arrivals.{arrivals, call_of, conn_of}
 use Rattle.poa_history.specs.Replies.{asks, decided, is_collected, is_decided_by, number_of, reply_by, reply_of}
 use Rattle.history_standing.specs.Stages.{is_at}
+use Rattle.history_standing.specs.declared.stage.Stage.{Stage}
 use Rattle.poa_history.specs.States.{Stored}
 use Rattle.history_standing.specs.Trees.{In}
+use Rattle.core_settings.specs.declared.settings.Settings.{Settings}
+use Rattle.core_outboxes.specs.Comes.{Comes}
 use Rattle.core_outboxes.specs.declared.decision.Decision.{Decision}
 use Rattle.core_outboxes.specs.declared.filed.Filed.{Filed}
 use Rattle.poa_history.specs.Numbers.{below}
@@ -49,3 +54,9 @@ pub record Decides (c : Config) (run : ℕ) (opened : Stored) (past : List Entry
   pub target_is : (r : ℕ) → r < arrivals past → is_decided_by past e r ≡ is_at r (target_of decision)
   pub reply_is : (r : ℕ) → r < arrivals past → decided c run past r ≡ false → decided c run (e ∷ past) r ≡ true
       → reply_by c run opened past e r ≡ Some (reply_to decision r (number_of (call_of past r)))
+
+-- where it succeeds, it is what the entry decides after each history that it comes after
+abbrev pub DecidesNext : {E : Type 0} → Config → Entry → Stage → Option Call → Settings → Option Outcome → Result (Option Decision) E → Type 0
+DecidesNext c e begun call settings outcome result =
+    (run : ℕ) (opened : Stored) (past : List Entry) → Comes c run opened past e begun call settings outcome
+    → IfOk result (Decides c run opened past e)

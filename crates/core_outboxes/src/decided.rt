@@ -1,12 +1,10 @@
 //! What an entry decides.
-ghost use Rattle.std.specs.Prelude.{◌≡◌, ℕ, List, true, false, IfOk, IsOk, Ok, None, option_copied};
-ghost use Rattle.core_settings.specs.Told.{Tells};
-ghost use Rattle.core_outboxes.specs.Comes.{Comes};
+ghost use Rattle.std.specs.Prelude.{◌≡◌, true, false, IfOk, IsOk, Ok, None, option_copied};
+ghost use Rattle.core_settings.specs.Told.{SettingsTell};
 ghost use Rattle.core_outboxes.specs.Fixed as fixed;
-ghost use Rattle.core_outboxes.specs.Decided.{Decides};
+ghost use Rattle.core_outboxes.specs.Decided.{DecidesNext};
 ghost use Rattle.poa_base.specs.declared.Entry.{Entry};
 ghost use Rattle.poa_history.specs.Replies as replies;
-ghost use Rattle.poa_history.specs.States.{Stored};
 
 use crate::decision::Decision;
 use crate::endings::{reply_admitted, reply_incarnated};
@@ -69,9 +67,8 @@ fn reply_in(
     settings: &Settings,
     outcome: Option<Outcome>,
 ) -> Result<Option<Reply>, WantMemory>
-    ensures told { (past : List Entry) → Tells config.now past settings.now
-        → IfOk result (λ reply. reply
-        ≡ fixed.reply_in config.now past (option_copied call.entry) outcome entry.now) }
+    ensures told { SettingsTell config.now settings.now (λ past. IfOk result (λ reply. reply
+        ≡ fixed.reply_in config.now past (option_copied call.entry) outcome entry.now)) }
     ensures ends { fixed.may_decide entry.now ≡ true → fixed.may_want entry.now ≡ false
         → IsOk result }
 {
@@ -100,10 +97,8 @@ pub fn decision_of(
     settings: &Settings,
     outcome: Option<Outcome>,
 ) -> Result<Option<Decision>, WantMemory>
-    ensures decides { (run : ℕ) (opened : Stored) (past : List Entry)
-        → Comes config.now run opened past entry.now stage (option_copied call.entry) settings.now
-        outcome
-        → IfOk result (Decides config.now run opened past entry.now) }
+    ensures decides { DecidesNext config.now entry.now stage (option_copied call.entry)
+        settings.now outcome result }
     ensures none { fixed.may_decide entry.now ≡ false → IfOk result (λ it. it ≡ None) }
     ensures ends { fixed.may_want entry.now ≡ false → IsOk result }
 {

@@ -1,7 +1,6 @@
 //! The reply to a call whose adapter was to be created.
-ghost use Rattle.std.specs.Prelude.{◌≡◌, List, option_copied, IfOk};
-ghost use Rattle.core_settings.specs.Told.{Tells};
-ghost use Rattle.poa_base.specs.declared.Entry.{Entry};
+ghost use Rattle.std.specs.Prelude.{◌≡◌, option_copied, IfOk};
+ghost use Rattle.core_settings.specs.Told.{SettingsTell};
 ghost use Rattle.history_standing.specs.Keys.{key_in as key_of_call};
 ghost use Rattle.poa_history.specs.Replies as replies;
 ghost use Rattle.history_standing.specs.Situations.{key_or_none};
@@ -84,9 +83,8 @@ pub fn reply_tried(
     call: Option<&Call>,
     answer: &Attempt,
 ) -> Result<Reply, WantMemory>
-    ensures { (past : List Entry) → Tells config.now past settings.now
-        → IfOk result (λ reply. reply
-        ≡ replies.reply_tried config.now past (option_copied call.entry) answer.now) }
+    ensures { SettingsTell config.now settings.now (λ past. IfOk result (λ reply. reply
+        ≡ replies.reply_tried config.now past (option_copied call.entry) answer.now)) }
 {
     reply_told(alloc, config, settings, call, answer)
 }

@@ -3,9 +3,9 @@ use Rattle.std.proofs.Common.{◌≡◌, ℕ, ◌+◌, ◌^◌, ◌<◌, ◌≤�
 use Rattle.poa_policy.specs.Kept.{KeepsRules}
 use Rattle.core_outboxes.specs.Owed.{AreOwed}
 use Rattle.core_outboxes.specs.Desk.{Files}
-use Rattle.core_state.specs.State.{IsState}
+use Rattle.core_state.specs.State.{StateAgrees}
 use Rattle.core_run.specs.declared.inside.Inside.{Inside}
-use Rattle.core_run.specs.Known.{KnowsTables}
+use Rattle.core_run.specs.Known.{TablesAgree}
 use Rattle.core_run.specs.Agrees.{Agrees, opened_in}
 use Rattle.core_run.specs.ToCome.{stay}
 use Rattle.core_run.specs.Kept.{IsKept}
@@ -17,8 +17,8 @@ pub record IsNew (i : Inside) : Type 0 where
   pub rules : KeepsRules i.config
   pub numbered : i.run < 2 ^ 32
   pub limited : i.limit ≤ 4000000
-  pub state : IsState i.config i.run (opened_in i) [] i.state
-  pub tables : KnowsTables i.config i.run [] i.tables
+  pub state : StateAgrees i.config i.run (opened_in i) [] i.state
+  pub tables : TablesAgree i.config i.run [] i.tables
   pub owing : i.desk.owing.items ≡ []
   pub files : Files i.desk []
   pub entries : i.entries.items ≡ []

@@ -12,7 +12,7 @@ use Rattle.poa_history.proofs.TurnTells.{done_is, removal_is}
 use Rattle.poa_history.proofs.StagesFrom.{maker, stage_other}
 use Rattle.poa_history.specs.Entries.{stage_at}
 use Rattle.core_arrivals.specs.declared.workers.Workers.{Workers}
-use Rattle.core_arrivals.specs.Begun.{KnowsWorkers, only_ends}
+use Rattle.core_arrivals.specs.Begun.{WorkersAgree, only_ends}
 use Rattle.core_arrivals.proofs.Staying.{count_few, count_same, count_less, count_near}
 use Rattle.core_state.specs.State.{only_ends as only_ends_by}
 use Rattle.poa_history.specs.Entries.{is_turn}
@@ -25,7 +25,7 @@ below_of n h = count_below (λ w. only_ends (stage h w)) n + count_below (λ w. 
 unfoldable pub by_history : List Entry → ℕ
 by_history h = below_of 16 h
 
-pub workers_is : (h : List Entry) (workers : Workers) → KnowsWorkers h workers → by_workers workers ≡ by_history h
+pub workers_is : (h : List Entry) (workers : Workers) → WorkersAgree h workers → by_workers workers ≡ by_history h
 unfolding by_workers by_history
 workers_is h workers is =
     ap₂ (λ a b. a + b)

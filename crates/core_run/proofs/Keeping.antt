@@ -11,7 +11,7 @@ use Rattle.poa_history.specs.Runs.{IsRun}
 use Rattle.core_standing.specs.Answers.{AnswersAs}
 use Rattle.core_standing.specs.Seen.{seen}
 use Rattle.poa_history.specs.Entries.{stage_at}
-use Rattle.core_arrivals.specs.Placed.{KnowsCalls}
+use Rattle.core_arrivals.specs.Placed.{CallsAgree}
 use Rattle.core_outboxes.specs.Comes.{call_at}
 use Rattle.core_outboxes.specs.declared.filed.Filed.{Filed}
 use Rattle.core_outboxes.specs.Desk.{AreLeft}
@@ -20,7 +20,7 @@ use Rattle.core_state.specs.declared.coming.Coming.{Coming}
 use Rattle.poa_history.specs.Entries.{is_turn}
 use Rattle.core_run.specs.declared.inside.Inside.{Inside}
 use Rattle.poa_history.specs.Life.{Life}
-use Rattle.core_run.specs.Known.{KnowsTables}
+use Rattle.core_run.specs.Known.{TablesAgree}
 use Rattle.core_run.specs.Agrees.{Agrees, history, opened_in}
 use Rattle.core_run.specs.ToCome.{is_ending, stay}
 use Rattle.core_run.specs.Turning.{IsAsked}
@@ -56,7 +56,7 @@ kept_then k e old new noted same less space =
 pub at_most : (a b k : ℕ) → a ≡ b → 1 ≤ k → a + 1 ≤ b + k
 at_most a b k is some = omega (arith, is, some)
 
-pub turn_kept : (e : Entry) (old new : Inside) → IsNoted e old new → is_turn e ≡ true → KnowsTables old.config old.run (history old) old.tables
+pub turn_kept : (e : Entry) (old new : Inside) → IsNoted e old new → is_turn e ≡ true → TablesAgree old.config old.run (history old) old.tables
     → HasSpace (needed e) old → IsKept new
 turn_kept e old new noted turn tables =
     elim (is_ending e) as (λ b. is_ending e ≡ b → HasSpace (if b then 0 else 2) old → IsKept new) [
@@ -101,7 +101,7 @@ turn_stage past (Abandon w) is = absurd (let e : false ≡ true = is in cc)
 pub asked_then : (old mid : Inside) (k : Coming) → Agrees (history mid) mid → life mid ≡ life old
     → IsRun old.config old.run old.limit (k.entry.now ∷ history old)
     → is_turn k.entry.now ≡ true → k.stage ≡ stage_at (history old) k.entry.now
-    → (KnowsCalls (history mid) mid.tables.calls.places.items → k.stage ≡ stage_at (history mid) k.entry.now
+    → (CallsAgree (history mid) mid.tables.calls.places.items → k.stage ≡ stage_at (history mid) k.entry.now
     → option_copied k.call ≡ call_at (history mid) k.entry.now)
     → ((run limit w : ℕ) → IsRun mid.config run limit (history mid) → AnswersAs mid.config run (history mid) (seen mid.state.standing)
     → k.stage ≡ stage (history mid) w

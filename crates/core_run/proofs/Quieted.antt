@@ -14,7 +14,7 @@ use Rattle.held_queue.specs.Frees.{nothing, freed_by}
 use Rattle.poa_history.specs.Entries.{stage_at, changes_nothing}
 use Rattle.core_standing.proofs.Settled.{nothing_changed}
 use Rattle.core_settings.specs.declared.settings.Settings.{Settings}
-use Rattle.core_settings.specs.Told.{Tells}
+use Rattle.core_settings.specs.Told.{SettingsAgree}
 use Rattle.core_state.specs.Kept.{kept_in}
 use Rattle.core_state.proofs.QuietHolds.{quiet_holds, is_quiet}
 use Rattle.core_outboxes.specs.declared.filed.Filed.{Filed}
@@ -22,7 +22,7 @@ use Rattle.core_outboxes.specs.Decided.{AreFiled, Decides}
 use Rattle.core_outboxes.specs.Desk.{AreLeft, WaitIs}
 use Rattle.core_outboxes.specs.Waits.{ordered_by}
 use Rattle.core_state.specs.declared.state.State.{State}
-use Rattle.core_state.specs.State.{IsState}
+use Rattle.core_state.specs.State.{StateAgrees}
 use Rattle.poa_history.specs.Entries.{is_turn}
 use Rattle.core_state.proofs.Stated.{kept_still}
 use Rattle.core_run.specs.declared.inside.Inside.{Inside}
@@ -58,9 +58,9 @@ nothing_by = by_still (λ e. changes_nothing e ≡ true) (λ _. refl) (λ _ _ _.
 quiet_by : (e : Entry) → is_turn e ≡ false → is_quiet e ≡ true
 quiet_by = by_still (λ e. is_quiet e ≡ true) (λ _. refl) (λ _ _ _. refl) (λ _ _. refl) (λ _. refl) (λ _ _. refl) (λ _. refl)
 
-same_set : (c : Config) (h : List Entry) (e : Entry) (s : Settings) → is_turn e ≡ false → Tells c h s → Tells c (e ∷ h) s
+same_set : (c : Config) (h : List Entry) (e : Entry) (s : Settings) → is_turn e ≡ false → SettingsAgree c h s → SettingsAgree c (e ∷ h) s
 same_set c h e s is t =
-    by_still (λ x. Tells c (x ∷ h) s) (λ _. record { managed = t.managed; states = t.states; presets = t.presets; endpoints = t.endpoints })
+    by_still (λ x. SettingsAgree c (x ∷ h) s) (λ _. record { managed = t.managed; states = t.states; presets = t.presets; endpoints = t.endpoints })
     (λ _ _ _. record { managed = t.managed; states = t.states; presets = t.presets; endpoints = t.endpoints })
     (λ _ _. record { managed = t.managed; states = t.states; presets = t.presets; endpoints = t.endpoints })
     (λ _. record { managed = t.managed; states = t.states; presets = t.presets; endpoints = t.endpoints })
@@ -84,7 +84,7 @@ frees_none : (c : Config) (run : ℕ) (h : List Entry) (e : Entry) → is_turn e
 frees_none c run h = by_still (λ e. nothing ≡ freed_by c run h e) (λ _. refl) (λ _ _ _. refl) (λ _ _. refl) (λ _. refl) (λ _ _. refl) (λ _. refl)
 
 pub quiet_state : (c : Config) (run limit : ℕ) (opened : Stored) (h : List Entry) (e : Entry) (s : State) → IsRun c run limit (e ∷ h) → is_turn e ≡ false
-    → IsState c run opened h s → IsState c run opened (e ∷ h) s
+    → StateAgrees c run opened h s → StateAgrees c run opened (e ∷ h) s
 quiet_state c run limit opened h e s follows still state =
     record {
       stands = kept_still c run h e (seen s.standing) (nothing_changed c run h e (nothing_by e still)) state.stands;

@@ -9,7 +9,7 @@ use Rattle.core_outboxes.specs.declared.filed.Filed.{Filed}
 use Rattle.core_outboxes.specs.Desk.{Files}
 use Rattle.core_outboxes.specs.Owed.{AreOwed}
 use Rattle.core_run.specs.declared.tables.Tables.{Tables}
-use Rattle.core_run.specs.Known.{KnowsTables}
+use Rattle.core_run.specs.Known.{TablesAgree}
 use Rattle.core_run.specs.Agrees.{Agrees, history}
 use Rattle.core_run.specs.Noting.{HasRoomForEntry}
 use Rattle.journal_entries.specs.Rows.{HasRoomFor}
@@ -35,7 +35,7 @@ pub ready_space : (e : Entry) (i : Inside) → is_ending e ≡ false → HasSpac
 ready_space e i begins = subst (λ b. HasSpace (if b then 0 else 2) i) (sym begins)
 
 -- what is kept stays so where the tables have more room
-pub tables_kept : (i : Inside) (t : Tables) → IsKept i → ((h : List Entry) → KnowsTables i.config i.run h i.tables → KnowsTables i.config i.run h t)
+pub tables_kept : (i : Inside) (t : Tables) → IsKept i → ((h : List Entry) → TablesAgree i.config i.run h i.tables → TablesAgree i.config i.run h t)
     → IsKept (record i { tables = t })
 tables_kept i t kept same =
     (let a = kept.agrees in let tables = same (history i) a.tables in record {

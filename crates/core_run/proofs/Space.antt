@@ -10,13 +10,13 @@ use Rattle.history_standing.specs.Searches.{count_below}
 use Rattle.history_standing.specs.Stages.{is_abandoned}
 use Rattle.core_arrivals.specs.declared.Tally.{Tally}
 use Rattle.poa_history.specs.declared.Full.{Full}
-use Rattle.core_arrivals.specs.Tallies.{IsTally}
+use Rattle.core_arrivals.specs.Tallies.{TallyAgrees}
 use Rattle.poa_history.specs.Leaving.{staying, is_staying}
 use Rattle.core_arrivals.proofs.Staying.{staying_less}
 use Rattle.core_arrivals.proofs.Follows.{unfilled_is}
 use Rattle.poa_history.specs.Entries.{is_turn}
 use Rattle.core_run.specs.declared.tables.Tables.{Tables}
-use Rattle.core_run.specs.Known.{KnowsTables}
+use Rattle.core_run.specs.Known.{TablesAgree}
 use Rattle.core_run.specs.ToCome.{unless, by_connections, by_workers, stay, is_conn, is_ending}
 use Rattle.core_run.proofs.Endings.{by_history, workers_is, conns_keep, turns_add, endings_take, abandon_takes}
 
@@ -30,7 +30,7 @@ some_is None false is = refl
 some_is (Some f) true is = refl
 some_is (Some f) false is = absurd (let e : false ≡ true = is in cc)
 
-tally_is : (h : List Entry) (t : Tally) → IsTally h t → by_connections t ≡ conns_of h
+tally_is : (h : List Entry) (t : Tally) → TallyAgrees h t → by_connections t ≡ conns_of h
 tally_is h t is = ap₂ (λ a b. a + b) (ap₂ (λ a b. a + unless b) is.stayers (is.leavers 0)) (ap unless (some_is t.filled (is_filled h) (unfilled_is h t is)))
 
 -- of the entries of workers, and of calls and replies, none enters, leaves or is filled
@@ -85,7 +85,7 @@ turns_arrive_none h (TakeOut w n x) is = refl
 turns_arrive_none h (Etherealized w x y) is = refl
 turns_arrive_none h (Abandon w) is = absurd (let e : false ≡ true = is in cc)
 
-tally_after : (h : List Entry) (e : Entry) (t u : Tally) → keeps_conns e ≡ true → IsTally h t → IsTally (e ∷ h) u → by_connections u ≡ by_connections t
+tally_after : (h : List Entry) (e : Entry) (t u : Tally) → keeps_conns e ≡ true → TallyAgrees h t → TallyAgrees (e ∷ h) u → by_connections u ≡ by_connections t
 tally_after h e t u keeps old new = tally_is (e ∷ h) u new ∙ conns_same h e keeps ∙ sym (tally_is h t old)
 
 -- one more may leave
@@ -95,12 +95,12 @@ entered_of h conn =
     (is_filled h) ≤ count_below (is_staying h) (connections h) + unless (has_left h 0) + unless (is_filled h) + 1)
     [ true ↦ omega arith | false ↦ omega arith ]
 
-tally_entered : (h : List Entry) (conn : ℕ) (t u : Tally) → IsTally h t → IsTally (Entered conn ∷ h) u → by_connections u ≤ by_connections t + 1
+tally_entered : (h : List Entry) (conn : ℕ) (t u : Tally) → TallyAgrees h t → TallyAgrees (Entered conn ∷ h) u → by_connections u ≤ by_connections t + 1
 tally_entered h conn t u old new =
     (let a = tally_is h t old in let b = tally_is (Entered conn ∷ h) u new in let more = entered_of h conn in omega (arith, a, b, more))
 
 -- one less may come when the run was filled
-tally_filled : (h : List Entry) (conn size : ℕ) (t u : Tally) → is_filled h ≡ false → IsTally h t → IsTally (Filled conn size ∷ h) u
+tally_filled : (h : List Entry) (conn size : ℕ) (t u : Tally) → is_filled h ≡ false → TallyAgrees h t → TallyAgrees (Filled conn size ∷ h) u
     → by_connections u + 1 ≡ by_connections t
 tally_filled h conn size t u fresh old new =
     (let a = tally_is h t old in let b = tally_is (Filled conn size ∷ h) u new in
@@ -135,32 +135,32 @@ left_of h conn open_ =
           omega (arith, is, some)))
     ] refl less
 
-tally_left : (h : List Entry) (conn : ℕ) (t u : Tally) → IsOpen h conn → IsTally h t → IsTally (Left conn ∷ h) u → by_connections u + 1 ≡ by_connections t
+tally_left : (h : List Entry) (conn : ℕ) (t u : Tally) → IsOpen h conn → TallyAgrees h t → TallyAgrees (Left conn ∷ h) u → by_connections u + 1 ≡ by_connections t
 tally_left h conn t u open_ old new =
     (let a = tally_is h t old in let b = tally_is (Left conn ∷ h) u new in let less = left_of h conn open_ in omega (arith, a, b, less))
 
 -- where one may leave, there is one
-tally_open : (h : List Entry) (conn : ℕ) (t : Tally) → IsOpen h conn → IsTally h t → 1 ≤ by_connections t
+tally_open : (h : List Entry) (conn : ℕ) (t : Tally) → IsOpen h conn → TallyAgrees h t → 1 ≤ by_connections t
 tally_open h conn t open_ old = (let a = tally_is h t old in let less = left_of h conn open_ in omega (arith, a, less))
 
 -- a run that isn't filled may be
-tally_unfilled : (h : List Entry) (t : Tally) → is_filled h ≡ false → IsTally h t → 1 ≤ by_connections t
+tally_unfilled : (h : List Entry) (t : Tally) → is_filled h ≡ false → TallyAgrees h t → 1 ≤ by_connections t
 tally_unfilled h t fresh old = (let a = tally_is h t old in let less : unless (is_filled h) ≡ 1 = ap unless fresh in omega (arith, a, less))
 
 -- what is kept for workers, as entries follow
-workers_same : {c c' : Config} {run run' : ℕ} (h : List Entry) (e : Entry) (t u : Tables) → is_conn e ≡ true → KnowsTables c run h t
-    → KnowsTables c' run' (e ∷ h) u → by_workers u.workers ≡ by_workers t.workers
+workers_same : {c c' : Config} {run run' : ℕ} (h : List Entry) (e : Entry) (t u : Tables) → is_conn e ≡ true → TablesAgree c run h t
+    → TablesAgree c' run' (e ∷ h) u → by_workers u.workers ≡ by_workers t.workers
 workers_same h e t u conn old new = workers_is (e ∷ h) u.workers new.workers ∙ conns_keep h e conn ∙ sym (workers_is h t.workers old.workers)
 
-pub stay_is : {c : Config} {run : ℕ} (h : List Entry) (t : Tables) → KnowsTables c run h t → stay t ≡ conns_of h + by_history h
+pub stay_is : {c : Config} {run : ℕ} (h : List Entry) (t : Tables) → TablesAgree c run h t → stay t ≡ conns_of h + by_history h
 stay_is h t is = ap₂ (λ a b. a + b) (tally_is h t.tally is.tally) (workers_is h t.workers is.workers)
 
 -- a call that arrives, and a reply that is collected, leave all else
-pub stay_after : {c c' : Config} {run run' : ℕ} (h : List Entry) (e : Entry) (t u : Tables) → keeps_conns e ≡ true → is_conn e ≡ true → KnowsTables c run h t
-    → KnowsTables c' run' (e ∷ h) u → stay u ≡ stay t
+pub stay_after : {c c' : Config} {run run' : ℕ} (h : List Entry) (e : Entry) (t u : Tables) → keeps_conns e ≡ true → is_conn e ≡ true → TablesAgree c run h t
+    → TablesAgree c' run' (e ∷ h) u → stay u ≡ stay t
 stay_after h e t u keeps conn old new = ap₂ (λ a b. a + b) (tally_after h e t.tally u.tally keeps old.tally new.tally) (workers_same h e t u conn old new)
 
-pub stay_entered : {c c' : Config} {run run' : ℕ} (h : List Entry) (conn : ℕ) (t u : Tables) → KnowsTables c run h t → KnowsTables c' run' (Entered conn ∷ h) u
+pub stay_entered : {c c' : Config} {run run' : ℕ} (h : List Entry) (conn : ℕ) (t u : Tables) → TablesAgree c run h t → TablesAgree c' run' (Entered conn ∷ h) u
     → stay u ≤ stay t + 1
 stay_entered h conn t u old new =
     sums _ _ _ _ (tally_entered h conn t.tally u.tally old.tally new.tally) (workers_same h (Entered conn) t u refl old new)
@@ -174,27 +174,27 @@ less_by a b c d less same = omega (arith, less, same)
 some_of : (a b : ℕ) → 1 ≤ a → 1 ≤ a + b
 some_of a b some = omega (arith, some)
 
-pub stay_filled : {c c' : Config} {run run' : ℕ} (h : List Entry) (conn size : ℕ) (t u : Tables) → is_filled h ≡ false → KnowsTables c run h t
-    → KnowsTables c' run' (Filled conn size ∷ h) u → stay u + 1 ≡ stay t
+pub stay_filled : {c c' : Config} {run run' : ℕ} (h : List Entry) (conn size : ℕ) (t u : Tables) → is_filled h ≡ false → TablesAgree c run h t
+    → TablesAgree c' run' (Filled conn size ∷ h) u → stay u + 1 ≡ stay t
 stay_filled h conn size t u fresh old new =
     less_by (by_connections u.tally) (by_connections t.tally) (by_workers u.workers) (by_workers t.workers)
     (tally_filled h conn size t.tally u.tally fresh old.tally new.tally) (workers_same h (Filled conn size) t u refl old new)
 
-pub stay_left : {c c' : Config} {run run' : ℕ} (h : List Entry) (conn : ℕ) (t u : Tables) → IsOpen h conn → KnowsTables c run h t
-    → KnowsTables c' run' (Left conn ∷ h) u → stay u + 1 ≡ stay t
+pub stay_left : {c c' : Config} {run run' : ℕ} (h : List Entry) (conn : ℕ) (t u : Tables) → IsOpen h conn → TablesAgree c run h t
+    → TablesAgree c' run' (Left conn ∷ h) u → stay u + 1 ≡ stay t
 stay_left h conn t u open_ old new =
     less_by (by_connections u.tally) (by_connections t.tally) (by_workers u.workers) (by_workers t.workers)
     (tally_left h conn t.tally u.tally open_ old.tally new.tally) (workers_same h (Left conn) t u refl old new)
 
-pub stay_open : {c : Config} {run : ℕ} (h : List Entry) (conn : ℕ) (t : Tables) → IsOpen h conn → KnowsTables c run h t → 1 ≤ stay t
+pub stay_open : {c : Config} {run : ℕ} (h : List Entry) (conn : ℕ) (t : Tables) → IsOpen h conn → TablesAgree c run h t → 1 ≤ stay t
 stay_open h conn t open_ old = some_of (by_connections t.tally) (by_workers t.workers) (tally_open h conn t.tally open_ old.tally)
 
-pub stay_unfilled : {c : Config} {run : ℕ} (h : List Entry) (t : Tables) → is_filled h ≡ false → KnowsTables c run h t → 1 ≤ stay t
+pub stay_unfilled : {c : Config} {run : ℕ} (h : List Entry) (t : Tables) → is_filled h ≡ false → TablesAgree c run h t → 1 ≤ stay t
 stay_unfilled h t fresh old = some_of (by_connections t.tally) (by_workers t.workers) (tally_unfilled h t.tally fresh old.tally)
 
 -- a worker's entry begins at most what takes one entry to end
-pub stay_turned : {c c' : Config} {run run' : ℕ} (h : List Entry) (e : Entry) (t u : Tables) → is_turn e ≡ true → KnowsTables c run h t
-    → KnowsTables c' run' (e ∷ h) u → stay u ≤ stay t + 1
+pub stay_turned : {c c' : Config} {run run' : ℕ} (h : List Entry) (e : Entry) (t u : Tables) → is_turn e ≡ true → TablesAgree c run h t
+    → TablesAgree c' run' (e ∷ h) u → stay u ≤ stay t + 1
 stay_turned h e t u turn old new =
     sums _ _ _ _ _ _ (tally_after h e t.tally u.tally (turns_keep e turn) old.tally new.tally) (workers_is h t.workers old.workers)
     (workers_is (e ∷ h) u.workers new.workers) (turns_add h e turn)
@@ -204,7 +204,7 @@ stay_turned h e t u turn old new =
 
 -- one that only ends something takes the room that was kept for it
 pub stay_ended : {d d' : Config} {r r' : ℕ} (c : Config) (run limit : ℕ) (h : List Entry) (e : Entry) (t u : Tables) → MayFollow c run limit h e
-    → is_turn e ≡ true → is_ending e ≡ true → KnowsTables d r h t → KnowsTables d' r' (e ∷ h) u → stay u + 1 ≡ stay t
+    → is_turn e ≡ true → is_ending e ≡ true → TablesAgree d r h t → TablesAgree d' r' (e ∷ h) u → stay u + 1 ≡ stay t
 stay_ended c run limit h e t u may turn ends old new =
     sums _ _ _ _ _ _ (tally_after h e t.tally u.tally (turns_keep e turn) old.tally new.tally) (workers_is h t.workers old.workers)
     (workers_is (e ∷ h) u.workers new.workers) (endings_take c run limit h e may ends)
@@ -213,7 +213,7 @@ stay_ended c run limit h e t u may turn ends old new =
     sums a b c d c' d' same old new less = omega (arith, same, old, new, less)
 
 pub stay_ending : {d : Config} {r : ℕ} (c : Config) (run limit : ℕ) (h : List Entry) (e : Entry) (t : Tables) → MayFollow c run limit h e → is_ending e ≡ true
-    → KnowsTables d r h t → 1 ≤ stay t
+    → TablesAgree d r h t → 1 ≤ stay t
 stay_ending c run limit h e t may ends old =
     sums _ _ _ (by_connections t.tally) (workers_is h t.workers old.workers) (endings_take c run limit h e may ends)
   where
@@ -221,8 +221,8 @@ stay_ending c run limit h e t may ends old =
     sums w w' v a same less = omega (arith, same, less)
 
 -- a worker that gives up takes the room that was kept for that
-pub stay_abandoned : {c c' : Config} {run run' : ℕ} (h : List Entry) (v : ℕ) (t u : Tables) → v < 16 → is_abandoned h v ≡ false → KnowsTables c run h t
-    → KnowsTables c' run' (Abandon v ∷ h) u → stay u + 1 ≡ stay t
+pub stay_abandoned : {c c' : Config} {run run' : ℕ} (h : List Entry) (v : ℕ) (t u : Tables) → v < 16 → is_abandoned h v ≡ false → TablesAgree c run h t
+    → TablesAgree c' run' (Abandon v ∷ h) u → stay u + 1 ≡ stay t
 stay_abandoned h v t u low going old new =
     sums _ _ _ _ _ _ (tally_after h (Abandon v) t.tally u.tally refl old.tally new.tally) (workers_is h t.workers old.workers)
     (workers_is (Abandon v ∷ h) u.workers new.workers) (abandon_takes h v low going)
@@ -230,7 +230,7 @@ stay_abandoned h v t u low going old new =
     sums : (a b c d c' d' : ℕ) → a ≡ b → d ≡ d' → c ≡ c' → c' + 1 ≡ d' → a + c + 1 ≡ b + d
     sums a b c d c' d' same old new less = omega (arith, same, old, new, less)
 
-pub stay_going : {c : Config} {run : ℕ} (h : List Entry) (v : ℕ) (t : Tables) → v < 16 → is_abandoned h v ≡ false → KnowsTables c run h t → 1 ≤ stay t
+pub stay_going : {c : Config} {run : ℕ} (h : List Entry) (v : ℕ) (t : Tables) → v < 16 → is_abandoned h v ≡ false → TablesAgree c run h t → 1 ≤ stay t
 stay_going h v t low going old =
     sums _ _ _ (by_connections t.tally) (workers_is h t.workers old.workers) (abandon_takes h v low going)
   where

@@ -20,7 +20,7 @@ use Rattle.core_standing.specs.Answers.{AnswersAs}
 use Rattle.core_standing.specs.Seen.{seen}
 use Rattle.poa_history.specs.Entries.{stage_at}
 use Rattle.core_settings.specs.declared.settings.Settings.{Settings}
-use Rattle.core_settings.specs.Told.{Tells as SettingsTell}
+use Rattle.core_settings.specs.Told.{SettingsAgree as SettingsTell}
 use Rattle.core_state.specs.Comes.{outcome_told}
 use Rattle.core_state.proofs.RunsHave.{serving_has}
 use Rattle.core_outboxes.specs.Comes.{Comes, HasOutcome, call_at}

@@ -7,7 +7,7 @@ use Rattle.poa_history.specs.Turns.{removal}
 use Rattle.active_map.specs.Live.{live}
 use Rattle.poa_history.specs.Numbers.{below}
 use Rattle.core_standing.specs.Seen.{seen}
-use Rattle.held_queue.specs.Held.{AreHeld}
+use Rattle.held_queue.specs.Held.{HeldAgrees}
 use Rattle.poa_history.specs.Waiting.{is_waiting}
 use Rattle.core_arrivals.specs.Queued.{is_waiting_line}
 use Rattle.core_state.specs.declared.state.State.{State}
@@ -30,7 +30,7 @@ pub record QueuesAgree (l : Life) (t : Tables) : Type 0 where
   pub messages : t.queue.messages.items ≡ filter (is_waiting l.history) (below (arrivals l.history))
   pub lines : t.queue.lines.items ≡ filter (is_waiting_line l.history) (below (arrivals l.history))
   -- each request and locate is ready to be asked, or stands with those that the same holds
-  pub held : AreHeld l.config l.run l.history t.held
+  pub held : HeldAgrees l.config l.run l.history t.held
 
 -- the activations that aren't over are those that stand, each as far as it has come, and ending where it is
 pub record RemovalsAgree (l : Life) (s : State) : Type 0 where

@@ -7,8 +7,8 @@ use Rattle.poa_history.specs.Runs.{IsRun}
 pub use Rattle.core_outboxes.specs.Owed.{AreOwed}
 use Rattle.core_outboxes.specs.Decided.{AreFiled}
 use Rattle.core_outboxes.specs.Desk.{HasFiled}
-pub use Rattle.core_state.specs.State.{IsState}
-use Rattle.core_run.specs.Known.{KnowsTables}
+pub use Rattle.core_state.specs.State.{StateAgrees}
+use Rattle.core_run.specs.Known.{TablesAgree}
 use Rattle.core_run.specs.declared.inside.Inside.{Inside}
 
 abbrev pub opened_in : Inside → Stored
@@ -16,8 +16,8 @@ opened_in i = stored_in i.opening
 
 pub record Agrees (h : List Entry) (i : Inside) : Type 0 where
   pub runs : IsRun i.config i.run i.limit h
-  pub state : IsState i.config i.run (opened_in i) h i.state
-  pub tables : KnowsTables i.config i.run h i.tables
+  pub state : StateAgrees i.config i.run (opened_in i) h i.state
+  pub tables : TablesAgree i.config i.run h i.tables
   pub owed : AreOwed i.config i.run h i.desk.owing.items
   pub filed : HasFiled (AreFiled i.config i.run (opened_in i) h) i.desk
 

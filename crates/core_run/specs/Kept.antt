@@ -9,9 +9,9 @@ use Rattle.held_queue.specs.Numbers.{HasRoom as HasRoomForCall}
 use Rattle.core_run.specs.declared.inside.Inside.{Inside}
 use Rattle.poa_history.specs.Life.{Life}
 use Rattle.core_outboxes.specs.Owed.{AreOwed}
-use Rattle.core_state.specs.State.{IsState}
+use Rattle.core_state.specs.State.{StateAgrees}
 use Rattle.poa_history.specs.Entries.{is_turn}
-use Rattle.core_run.specs.Known.{KnowsTables}
+use Rattle.core_run.specs.Known.{TablesAgree}
 use Rattle.core_run.specs.ToCome.{is_ending, stay}
 use Rattle.core_run.specs.Agrees.{Agrees, history, opened_in}
 
@@ -50,7 +50,7 @@ life i = record { config = i.config; run = i.run; limit = i.limit; opening = i.o
 pub record IsQuiet (h : List Entry) (e : Entry) (i : Inside) : Type 0 where
   pub follows : IsRun i.config i.run i.limit (e ∷ h)
   pub still : is_turn e ≡ false
-  pub state : IsState i.config i.run (opened_in i) h i.state
-  pub tables : KnowsTables i.config i.run h i.tables
+  pub state : StateAgrees i.config i.run (opened_in i) h i.state
+  pub tables : TablesAgree i.config i.run h i.tables
   pub owed : AreOwed i.config i.run h i.desk.owing.items
   pub left : HasFiled (AreLeft i.config i.run (opened_in i) h e) i.desk

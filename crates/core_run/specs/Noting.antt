@@ -14,11 +14,11 @@ use Rattle.held_queue.specs.Numbers.{HasRoom as HasRoomForCall}
 use Rattle.poa_history.specs.Waiting.{may_queue}
 use Rattle.core_arrivals.specs.Tallies.{HasRoomFor as HasRoomForTally}
 use Rattle.journal_entries.specs.Rows.{HasRoomFor}
-use Rattle.core_state.specs.State.{IsState}
+use Rattle.core_state.specs.State.{StateAgrees}
 use Rattle.core_run.specs.declared.inside.Inside.{Inside}
 use Rattle.core_run.specs.declared.brought.Brought.{Brought}
 use Rattle.poa_history.specs.Life.{with_entry}
-use Rattle.core_run.specs.Known.{KnowsTables}
+use Rattle.core_run.specs.Known.{TablesAgree}
 use Rattle.core_run.specs.Agrees.{opened_in, history}
 use Rattle.core_run.specs.Kept.{life}
 use Rattle.core_run.specs.Turning.{IsBrought}
@@ -35,17 +35,17 @@ pub record HasRoomForEntry (e : Entry) (i : Inside) : Type 0 where
 pub record IsHalfway (h : List Entry) (e : Entry) (begun : Stage) (b : Brought) (i : Inside) : Type 0 where
   pub follows : IsRun i.config i.run i.limit (e ∷ h)
   pub begun_is : begun ≡ stage_at h e
-  pub state : IsState i.config i.run (opened_in i) (e ∷ h) i.state
+  pub state : StateAgrees i.config i.run (opened_in i) (e ∷ h) i.state
   pub brought : IsBrought i.config i.run (opened_in i) h e b
-  pub tables : KnowsTables i.config i.run h i.tables
+  pub tables : TablesAgree i.config i.run h i.tables
   pub owed : AreOwed i.config i.run h i.desk.owing.items
   pub left : HasFiled (AreLeft i.config i.run (opened_in i) h e) i.desk
 
 -- the entry was noted, and what is kept says what the history says then, but for a call that arrives with it
 pub record IsNoted (e : Entry) (old new : Inside) : Type 0 where
   pub runs : IsRun new.config new.run new.limit (e ∷ history old)
-  pub state : IsState new.config new.run (opened_in new) (e ∷ history old) new.state
-  pub tables : KnowsTables new.config new.run (e ∷ history old) new.tables
+  pub state : StateAgrees new.config new.run (opened_in new) (e ∷ history old) new.state
+  pub tables : TablesAgree new.config new.run (e ∷ history old) new.tables
   pub before : AreOwedBefore new.config new.run (history old) e new.desk.owing.items
   pub owed : arrivals (e ∷ history old) ≡ arrivals (history old) → AreOwed new.config new.run (e ∷ history old) new.desk.owing.items
   pub filed : HasFiled (AreFiled new.config new.run (opened_in new) (e ∷ history old)) new.desk

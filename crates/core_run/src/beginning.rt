@@ -2,8 +2,8 @@
 ghost use Rattle.std.specs.Prelude.{◌≡◌, ◌≤◌, [], IfOk};
 ghost use Rattle.poa_base.specs.Store.{stored as stored_in};
 ghost use Rattle.poa_policy.specs.Kept.{KeepsRules};
-ghost use Rattle.core_state.specs.State.{IsState};
-ghost use Rattle.core_run.specs.Known.{KnowsTables};
+ghost use Rattle.core_state.specs.State.{StateAgrees};
+ghost use Rattle.core_run.specs.Known.{TablesAgree};
 ghost use Rattle.poa_history.specs.Life as lives;
 ghost use Rattle.core_run.specs.Kept.{IsKept, life};
 
@@ -52,8 +52,9 @@ fn parts(
 ) -> Result<(Entries, Tables, State), WantMemory>
     ensures entries { IfOk result (λ made. made.0.items ≡ []) }
     ensures room { IfOk result (λ made. 18 ≤ made.0.capacity) }
-    ensures tables { IfOk result (λ made. KnowsTables config.now run [] made.1) }
-    ensures state { IfOk result (λ made. IsState config.now run (stored_in opening.now) [] made.2) }
+    ensures tables { IfOk result (λ made. TablesAgree config.now run [] made.1) }
+    ensures state { IfOk result
+        (λ made. StateAgrees config.now run (stored_in opening.now) [] made.2) }
 {
     let entries = first_entries(alloc)?;
     let tables = Tables::new(alloc)?;

@@ -1,10 +1,9 @@
 //! Connections enter and leave.
-ghost use Rattle.std.specs.Prelude.{◌≡◌, ◌<◌, List, if◌then◌else◌, nat_lt, Some, None, OnOk, OnErr};
-ghost use Rattle.poa_base.specs.declared.Entry.{Entry as EntryOf};
+ghost use Rattle.std.specs.Prelude.{◌≡◌, ◌<◌, if◌then◌else◌, nat_lt, Some, None, OnOk, OnErr};
 ghost use Rattle.poa_base.specs.declared.Entry.TheVariants.{Entered, Left};
 ghost use Rattle.history_standing.specs.Arrivals.{connections};
 ghost use Rattle.poa_history.specs.Legal.{IsOpen};
-ghost use Rattle.core_arrivals.specs.Tallies.{IsTally};
+ghost use Rattle.core_arrivals.specs.Tallies.{TallyTells};
 ghost use Rattle.poa_history.specs.Life.{with_entry};
 ghost use Rattle.core_run.specs.Agrees.{history};
 ghost use Rattle.core_run.specs.Kept.{IsKept, life};
@@ -20,8 +19,8 @@ const CONNECTIONS: u64 = 4_000_000;
 
 /// The number of the next connection; none where the run had all that it may.
 pub fn next_number(tally: &Tally) -> Option<u32>
-    ensures { (h : List EntryOf) → IsTally h tally.now
-        → result ≡ (if nat_lt (connections h) 4000000 then Some (connections h) else None) }
+    ensures { TallyTells tally.now
+        (λ h. result ≡ (if nat_lt (connections h) 4000000 then Some (connections h) else None)) }
 {
     let conns = core_arrivals::connections(tally);
     if conns < CONNECTIONS {

@@ -22,11 +22,11 @@ ghost use Rattle.poa_history.specs.Turns.{turn};
 ghost use Rattle.history_laws.specs.Lasting.{KeepsUpdates, LeavesNothing};
 ghost use Rattle.core_arrivals.specs.Begun.{only_ends};
 ghost use Rattle.core_outboxes.specs.Owed.{AreOwed};
-ghost use Rattle.core_state.specs.State.{IsState};
+ghost use Rattle.core_state.specs.State.{StateAgrees};
 ghost use Rattle.poa_history.specs.Entries.{is_turn};
 ghost use Rattle.core_run.specs.Agreeing.{CountsAgree, QueuesAgree, RemovalsAgree};
 ghost use Rattle.core_run.specs.Gives.{Gives};
-ghost use Rattle.core_run.specs.Known.{KnowsTables};
+ghost use Rattle.core_run.specs.Known.{TablesAgree};
 ghost use Rattle.core_run.specs.ToCome.{is_ending};
 
 use crate::inside::Inside;
@@ -283,7 +283,7 @@ impl Run {
     pub fn state(&self) -> &State
         ensures counts { CountsAgree self.now result.now }
         ensures removals { RemovalsAgree self.now result.now }
-        ensures state { IsState self.now.config self.now.run (opened self.now) self.now.history
+        ensures state { StateAgrees self.now.config self.now.run (opened self.now) self.now.history
             result.now }
     {
         &self.inside.state
@@ -294,7 +294,7 @@ impl Run {
     /// those that the same holds.
     pub fn tables(&self) -> &Tables
         ensures queues { QueuesAgree self.now result.now }
-        ensures tables { KnowsTables self.now.config self.now.run self.now.history result.now }
+        ensures tables { TablesAgree self.now.config self.now.run self.now.history result.now }
     {
         &self.inside.tables
     }

@@ -1,7 +1,6 @@
 //! What is kept of the entries, so that nobody has to look for it in the journal.
-ghost use Rattle.std.specs.Prelude.{◌≡◌, ◌<◌, ◌∷◌, ℕ, true, [], List, reverse, vec_len, vec_capacity, IfOk, OnOk};
+ghost use Rattle.std.specs.Prelude.{◌≡◌, ◌<◌, ◌∷◌, ℕ, true, [], reverse, vec_len, vec_capacity, IfOk, OnOk};
 ghost use Rattle.poa_base.specs.declared.Config.{Config};
-ghost use Rattle.poa_base.specs.declared.Entry.{Entry as EntryOf};
 ghost use Rattle.poa_history.specs.Runs.{IsRun};
 ghost use Rattle.poa_history.specs.Entries.{stage_at};
 ghost use Rattle.core_arrivals.specs.Placed.{arrives};
@@ -10,7 +9,7 @@ ghost use Rattle.held_queue.specs.Frees.{freed_by};
 ghost use Rattle.held_queue.specs.Numbers.{HasRoom};
 ghost use Rattle.poa_history.specs.Waiting.{may_queue};
 ghost use Rattle.core_arrivals.specs.Tallies.{HasRoomFor, HasRoomForOne};
-ghost use Rattle.core_run.specs.Known.{KnowsTables};
+ghost use Rattle.core_run.specs.Known.{TablesAgree, TablesStay};
 
 use core_arrivals::{Calls, Queue, Tally, Workers, calls, queue, workers};
 use held_queue::{Freed, HeldQueue};
@@ -32,7 +31,7 @@ pub struct Tables {
 impl Tables {
     /// The tables of a run that hasn't begun.
     pub fn new(alloc: Global) -> Result<Tables, WantMemory>
-        ensures { (c : Config) (run : ℕ) → IfOk result (λ tables. KnowsTables c run [] tables) }
+        ensures { (c : Config) (run : ℕ) → IfOk result (λ tables. TablesAgree c run [] tables) }
     {
         Ok(Tables {
             calls: calls::none(alloc),
@@ -45,8 +44,7 @@ impl Tables {
 
     /// Makes room for a connection or a call; all else is as it was.
     pub fn reserve(&mut self) -> Result<(), WantMemory>
-        ensures same { (c : Config) (run : ℕ) (h : List EntryOf) → KnowsTables c run h self.old
-            → KnowsTables c run h self.new }
+        ensures same { TablesStay self.old self.new }
         ensures calls { OnOk result
             (vec_len self.new.calls.places < vec_capacity self.new.calls.places) }
         ensures queue { OnOk result (HasPlace self.new.queue) }
@@ -71,8 +69,8 @@ impl Tables {
             → IsRun c run limit (entry.now ∷ reverse entries.now.items)
             → stage ≡ stage_at (reverse entries.now.items) entry.now
             → freed ≡ freed_by c run (reverse entries.now.items) entry.now
-            → KnowsTables c run (reverse entries.now.items) self.old
-            → KnowsTables c run (entry.now ∷ reverse entries.now.items) self.new }
+            → TablesAgree c run (reverse entries.now.items) self.old
+            → TablesAgree c run (entry.now ∷ reverse entries.now.items) self.new }
     {
         let arrivals = self.tally.arrivals;
         let admitted = calls::call_admitted(entries, &self.calls, entry);

@@ -1,15 +1,13 @@
 //! The entries that workers make.
-ghost use Rattle.std.specs.Prelude.{◌≡◌, ◌∷◌, ℕ, true, false, List, reverse, option_copied, IfOk, IsOk, OnOk, OnErr};
-ghost use Rattle.poa_history.specs.States.{Stored};
+ghost use Rattle.std.specs.Prelude.{◌≡◌, ℕ, true, false, List, reverse, option_copied, IsOk};
 ghost use Rattle.poa_history.specs.Entries.{stage_at};
-ghost use Rattle.core_arrivals.specs.Placed.{KnowsCalls};
+ghost use Rattle.core_arrivals.specs.Placed.{CallsAgree};
 ghost use Rattle.core_outboxes.specs.Comes.{call_at as the_call_at};
-ghost use Rattle.core_state.specs.State.{IsState, only_ends};
+ghost use Rattle.core_state.specs.State.{only_ends, StateStays};
 ghost use Rattle.poa_base.specs.declared.Entry.{Entry as EntryOf};
-ghost use Rattle.core_outboxes.specs.Decided.{Decides};
 ghost use Rattle.core_outboxes.specs.Waits.{call_told};
 ghost use Rattle.core_run.specs.Turning as turning;
-ghost use Rattle.core_run.specs.Turning.{IsAsked, IsBrought};
+ghost use Rattle.core_run.specs.Turning.{ComesInTurn, TurnBrings, TurnDecides, TurnFollows};
 
 use crate::brought::Brought;
 use crate::freeing::freed_by;
@@ -29,7 +27,7 @@ pub fn call_at<'a>(
     entry: &Entry,
     stage: Stage,
 ) -> Option<&'a Call>
-    ensures { KnowsCalls (reverse entries.now.items) known.now.places.items
+    ensures { CallsAgree (reverse entries.now.items) known.now.places.items
         → stage ≡ stage_at (reverse entries.now.items) entry.now
         → option_copied result ≡ the_call_at (reverse entries.now.items) entry.now }
 {
@@ -71,18 +69,11 @@ fn ran(
     coming: &Coming<'_>,
     state: &mut State,
 ) -> Result<Option<Decision>, WantMemory>
-    requires asked { (limit : ℕ) × (opened : Stored) × (past : List EntryOf)
-        × IsAsked config.now run limit opened past coming.now state.old }
+    requires asked { ComesInTurn config.now run coming.now state.old }
     requires kind { (w : ℕ) × (coming.now.entry.now ≡ EntryOf.Run w) }
-    ensures ok { (limit : ℕ) (opened : Stored) (past : List EntryOf)
-        → IsAsked config.now run limit opened past coming.now state.old
-        → OnOk result (IsState config.now run opened (coming.now.entry.now ∷ past) state.new) }
-    ensures decides { (limit : ℕ) (opened : Stored) (past : List EntryOf)
-        → IsAsked config.now run limit opened past coming.now state.old
-        → IfOk result (Decides config.now run opened past coming.now.entry.now) }
-    ensures err { (opened : Stored) (past : List EntryOf)
-        → IsState config.now run opened past state.old
-        → OnErr result (IsState config.now run opened past state.new) }
+    ensures ok { TurnFollows config.now run coming.now state.old result state.new }
+    ensures decides { TurnDecides config.now run coming.now state.old result }
+    ensures err { StateStays config.now run state.old result state.new }
 {
     let outcome = core_state::advance(alloc, config, run, coming, state)?;
     decision_of(
@@ -105,18 +96,11 @@ fn told(
     coming: &Coming<'_>,
     state: &mut State,
 ) -> Result<Option<Decision>, WantMemory>
-    requires asked { (limit : ℕ) × (opened : Stored) × (past : List EntryOf)
-        × IsAsked config.now run limit opened past coming.now state.old }
+    requires asked { ComesInTurn config.now run coming.now state.old }
     requires kind { turning.is_run coming.now.entry.now ≡ false }
-    ensures ok { (limit : ℕ) (opened : Stored) (past : List EntryOf)
-        → IsAsked config.now run limit opened past coming.now state.old
-        → OnOk result (IsState config.now run opened (coming.now.entry.now ∷ past) state.new) }
-    ensures decides { (limit : ℕ) (opened : Stored) (past : List EntryOf)
-        → IsAsked config.now run limit opened past coming.now state.old
-        → IfOk result (Decides config.now run opened past coming.now.entry.now) }
-    ensures err { (opened : Stored) (past : List EntryOf)
-        → IsState config.now run opened past state.old
-        → OnErr result (IsState config.now run opened past state.new) }
+    ensures ok { TurnFollows config.now run coming.now state.old result state.new }
+    ensures decides { TurnDecides config.now run coming.now state.old result }
+    ensures err { StateStays config.now run state.old result state.new }
     ensures ends { only_ends coming.now.entry.now ≡ true → IsOk result }
 {
     let decision = decision_of(
@@ -144,17 +128,10 @@ fn decide(
     coming: &Coming<'_>,
     state: &mut State,
 ) -> Result<Option<Decision>, WantMemory>
-    requires { (limit : ℕ) × (opened : Stored) × (past : List EntryOf)
-        × IsAsked config.now run limit opened past coming.now state.old }
-    ensures ok { (limit : ℕ) (opened : Stored) (past : List EntryOf)
-        → IsAsked config.now run limit opened past coming.now state.old
-        → OnOk result (IsState config.now run opened (coming.now.entry.now ∷ past) state.new) }
-    ensures decides { (limit : ℕ) (opened : Stored) (past : List EntryOf)
-        → IsAsked config.now run limit opened past coming.now state.old
-        → IfOk result (Decides config.now run opened past coming.now.entry.now) }
-    ensures err { (opened : Stored) (past : List EntryOf)
-        → IsState config.now run opened past state.old
-        → OnErr result (IsState config.now run opened past state.new) }
+    requires { ComesInTurn config.now run coming.now state.old }
+    ensures ok { TurnFollows config.now run coming.now state.old result state.new }
+    ensures decides { TurnDecides config.now run coming.now state.old result }
+    ensures err { StateStays config.now run state.old result state.new }
     ensures ends { only_ends coming.now.entry.now ≡ true → IsOk result }
 {
     match coming.entry {
@@ -173,17 +150,10 @@ pub fn bring(
     coming: &Coming<'_>,
     state: &mut State,
 ) -> Result<Brought, WantMemory>
-    requires { (limit : ℕ) × (opened : Stored) × (past : List EntryOf)
-        × IsAsked config.now run limit opened past coming.now state.old }
-    ensures ok { (limit : ℕ) (opened : Stored) (past : List EntryOf)
-        → IsAsked config.now run limit opened past coming.now state.old
-        → OnOk result (IsState config.now run opened (coming.now.entry.now ∷ past) state.new) }
-    ensures brought { (limit : ℕ) (opened : Stored) (past : List EntryOf)
-        → IsAsked config.now run limit opened past coming.now state.old
-        → IfOk result (λ b. IsBrought config.now run opened past coming.now.entry.now b) }
-    ensures err { (opened : Stored) (past : List EntryOf)
-        → IsState config.now run opened past state.old
-        → OnErr result (IsState config.now run opened past state.new) }
+    requires { ComesInTurn config.now run coming.now state.old }
+    ensures ok { TurnFollows config.now run coming.now state.old result state.new }
+    ensures brought { TurnBrings config.now run coming.now state.old result }
+    ensures err { StateStays config.now run state.old result state.new }
     ensures ends { only_ends coming.now.entry.now ≡ true → IsOk result }
 {
     let admits = call_admitted(coming);

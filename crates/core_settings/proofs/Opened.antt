@@ -7,7 +7,7 @@ use Rattle.poa_base.specs.declared.ManagerConf.{ManagerConf}
 use Rattle.poa_base.specs.declared.ManagerState.TheVariants.{Holding}
 use Rattle.core_settings.specs.States.{start_states, state_at}
 use Rattle.history_standing.specs.Logs.{start_of}
-use Rattle.core_settings.specs.Told.{Tells}
+use Rattle.core_settings.specs.Told.{SettingsAgree}
 
 configured : (ms : List ManagerConf) (k : ℕ)
     → slice_index_or (map (λ m. m.start) ms) k Holding ≡ elim (slice_get ms k) [ Some conf ↦ conf.start | None ↦ Holding ]
@@ -26,5 +26,5 @@ counted : (ms : List ManagerConf) → length (map (λ m. m.start) ms) ≡ length
 counted [] = refl
 counted (m ∷ ms) = ap suc (counted ms)
 
-pub opened : (c : Config) → Tells c [] (record { managers = start_states c; presets = []; endpoints = [] })
+pub opened : (c : Config) → SettingsAgree c [] (record { managers = start_states c; presets = []; endpoints = [] })
 opened c = record { managed = ap suc (counted c.managers); states = started c; presets = λ p. refl; endpoints = λ p. refl }

@@ -1,5 +1,5 @@
 -- What the administrator's commands have set, beside what is configured.
-use Rattle.std.specs.Prelude.{◌≡◌, ℕ, suc, Bool, true, false, List, [], find, length, Option, Some, None, if◌then◌else◌}
+use Rattle.std.specs.Prelude.{◌≡◌, ℕ, suc, Bool, true, false, List, [], ◌∷◌, find, length, Option, Some, None, if◌then◌else◌, Result, OnOk}
 use Rattle.poa_base.specs.declared.Config.{Config}
 use Rattle.poa_base.specs.declared.Endpoint.{Endpoint}
 use Rattle.poa_base.specs.declared.ManagerState.{ManagerState}
@@ -8,7 +8,7 @@ use Rattle.poa_base.specs.declared.Command.TheVariants.{Preset, Forward, Unforwa
 use Rattle.poa_base.specs.declared.Entry.{Entry}
 use Rattle.core_settings.specs.States.{state_at}
 use Rattle.history_standing.specs.Paths.{same_path}
-use Rattle.history_standing.specs.Logs.{manager_state, preset_of, endpoint_of, forward_from}
+use Rattle.history_standing.specs.Logs.{command_done, manager_state, preset_of, endpoint_of, forward_from}
 use Rattle.core_settings.specs.declared.presets.PresetRow.{PresetRow}
 use Rattle.core_settings.specs.declared.endpoints.EndpointRow.{EndpointRow}
 use Rattle.core_settings.specs.declared.settings.Settings.{Settings}
@@ -47,7 +47,7 @@ abbrev pub forward_in : Config → Settings → List (List ℕ) → Option Endpo
 forward_in c s p = forward_from (endpoint_in c s) [] p
 
 -- they say of each manager and each path what the history says
-pub record Tells (c : Config) (past : List Entry) (s : Settings) : Type 0 where
+pub record SettingsAgree (c : Config) (past : List Entry) (s : Settings) : Type 0 where
   -- each manager has its state here, 0 being `root`
   pub managed : length s.managers ≡ suc (length c.managers)
   pub states : (m : ℕ) → state_in s m ≡ manager_state c past m
@@ -60,3 +60,12 @@ may_grow (Some (Preset p servant)) = true
 may_grow (Some (Forward p endpoint)) = true
 may_grow (Some (Unforward p)) = true
 may_grow command = false
+
+-- what holds of each history that they agree with
+abbrev pub SettingsTell : Config → Settings → (List Entry → Type 0) → Type 0
+SettingsTell c s says = (past : List Entry) → SettingsAgree c past s → says past
+
+-- where it succeeds, they took in each entry that does the command
+abbrev pub SettingsFollow : {T E : Type 0} → Config → Option Command → Settings → Result T E → Settings → Type 0
+SettingsFollow c command old result new = (past : List Entry) (e : Entry) → SettingsAgree c past old → command ≡ command_done past e
+    → OnOk result (SettingsAgree c (e ∷ past) new)

@@ -1,9 +1,8 @@
 //! The endpoints of paths, to which requests are forwarded.
 ghost use Rattle.std.specs.Prelude.{◌≡◌, ◌≤◌, [], List, IfOk, OnOk, OnErr, length, take, drop, option_copied, position};
-ghost use Rattle.poa_base.specs.declared.Entry.{Entry};
 ghost use Rattle.history_standing.specs.Paths.{same_path};
 ghost use Rattle.history_standing.specs.Logs as logs;
-ghost use Rattle.core_settings.specs.Told.{IsEndpointSet, Tells, endpoint_in, endpoint_row, forward_in};
+ghost use Rattle.core_settings.specs.Told.{IsEndpointSet, endpoint_in, endpoint_row, forward_in, SettingsTell};
 
 use crate::settings::Settings;
 use poa_base::{Config, Endpoint, Name, Path, WantMemory};
@@ -148,8 +147,8 @@ pub fn forward_of<'a>(
     path: &[Name],
 ) -> Option<&'a Endpoint>
     ensures value { option_copied result ≡ forward_in config.now settings.now path.now }
-    ensures told { (past : List Entry) → Tells config.now past settings.now
-        → option_copied result ≡ logs.forward_of config.now past path.now }
+    ensures told { SettingsTell config.now settings.now
+        (λ past. option_copied result ≡ logs.forward_of config.now past path.now) }
 {
     forward_from(config, settings, path, 0)
 }

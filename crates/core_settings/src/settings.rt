@@ -1,8 +1,6 @@
 //! What the administrator's commands have set.
-ghost use Rattle.std.specs.Prelude.{◌≡◌, ◌∷◌, [], List, false, option_copied, IfOk, IsOk, OnOk, OnErr};
-ghost use Rattle.poa_base.specs.declared.Entry.{Entry};
-ghost use Rattle.history_standing.specs.Logs as logs;
-ghost use Rattle.core_settings.specs.Told.{Tells, may_grow};
+ghost use Rattle.std.specs.Prelude.{◌≡◌, [], false, option_copied, IfOk, IsOk, OnOk, OnErr};
+ghost use Rattle.core_settings.specs.Told.{SettingsAgree, may_grow, SettingsFollow};
 ghost use Rattle.core_settings.specs.Changed.{Follows};
 
 use crate::endpoints::Endpoints;
@@ -25,7 +23,7 @@ pub struct Settings {
 
 /// What is set before the first entry: the managers are as configured.
 pub fn opening(alloc: Global, config: &Config) -> Result<Settings, WantMemory>
-    ensures { IfOk result (λ settings. Tells config.now [] settings) }
+    ensures { IfOk result (λ settings. SettingsAgree config.now [] settings) }
 {
     Ok(Settings {
         managers: Managers::new(alloc, config)?,
@@ -67,9 +65,8 @@ pub fn apply(
     command: Option<&Command>,
     settings: &mut Settings,
 ) -> Result<(), WantMemory>
-    ensures ok { (past : List Entry) (e : Entry) → Tells config.now past settings.old
-        → option_copied command.entry ≡ logs.command_done past e
-        → OnOk result (Tells config.now (e ∷ past) settings.new) }
+    ensures ok { SettingsFollow config.now (option_copied command.entry) settings.old result
+        settings.new }
     ensures err { OnErr result (settings.new ≡ settings.old) }
     ensures ends { may_grow (option_copied command.entry) ≡ false → IsOk result }
 {

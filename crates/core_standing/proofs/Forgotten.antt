@@ -13,7 +13,7 @@ use Rattle.history_standing.specs.Trees.{In}
 use Rattle.history_standing.proofs.Members.{in_kept}
 use Rattle.core_standing.specs.Seen.{forgotten, behind}
 use Rattle.active_map.specs.Live.{is_live, live}
-use Rattle.core_standing.specs.Kept.{Forgets, KeepsNoneOver, StandsFor, StandsAfter}
+use Rattle.core_standing.specs.Kept.{Forgets, KeepsNoneOver, StandsFor, StandingAgrees}
 use Rattle.core_standing.proofs.Behind.{length_behind}
 use Rattle.poa_history.specs.Entries.{may_begin, may_end}
 use Rattle.core_standing.proofs.ChangesAlike.{stands_changed, stands_settled, stands_through}
@@ -79,7 +79,7 @@ module _ (c : Config) (s : Standing) (p : Activation → Bool) (n m : ℕ) (kept
       ]
 
 -- what is kept after an entry, where what has ended went and what is over was forgotten
-module _ (c : Config) (run : ℕ) (past : List Entry) (e : Entry) (old mid : Standing) (kept : StandsAfter c run past old)
+module _ (c : Config) (run : ℕ) (past : List Entry) (e : Entry) (old mid : Standing) (kept : StandingAgrees c run past old)
     (room : may_begin e ≡ true → length old.activations < 4294967296) (change : mid ≡ changed c run past e old) where
   stands_mid : StandsFor c (changed c run past e (standing c run past)) mid
   stands_mid = subst (StandsFor c (changed c run past e (standing c run past))) (sym change) (stands_changed c run past e (standing c run past) old kept.stands)
@@ -88,10 +88,10 @@ module _ (c : Config) (run : ℕ) (past : List Entry) (e : Entry) (old mid : Sta
   few_mid = subst (λ (s : Standing). length s.activations ≤ 4294967296) (sym change) (few_changed c run past old e kept.few room)
 
   -- nothing may have ended
-  pub kept_begun : may_end e ≡ false → StandsAfter c run (e ∷ past) mid
+  pub kept_begun : may_end e ≡ false → StandingAgrees c run (e ∷ past) mid
   kept_begun quiet = record { stands = subst (λ s. StandsFor c s mid) (sym (still_after c run past e quiet)) stands_mid; few = few_mid }
 
-  pub kept_ended : (settles new : Standing) → settles ≡ settled c mid → StandsFor c settles new → StandsAfter c run (e ∷ past) new
+  pub kept_ended : (settles new : Standing) → settles ≡ settled c mid → StandsFor c settles new → StandingAgrees c run (e ∷ past) new
   kept_ended settles new settle forgets = record {
     stands =
         stands_through c (standing c run (e ∷ past)) settles new

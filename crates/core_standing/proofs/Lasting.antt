@@ -19,7 +19,7 @@ use Rattle.history_standing.specs.Ends.{is_left, is_over, let_out, settled}
 use Rattle.history_standing.specs.Stages.{stage}
 use Rattle.history_standing.specs.Standings.{Standing}
 use Rattle.core_standing.specs.declared.standing.Standing.{Standing as Held}
-use Rattle.core_standing.specs.Kept.{StandsAfter}
+use Rattle.core_standing.specs.Kept.{StandingAgrees}
 use Rattle.core_standing.specs.Seen.{seen}
 use Rattle.poa_history.specs.Entries.{is_removal}
 use Rattle.core_standing.specs.Touched.{Lasts, Others, SameOthers, is_touched, left}
@@ -53,7 +53,7 @@ seen_alone s fit alone a b a_in b_in same =
     ]
 
 -- each adapter that is kept stays
-pub kept_stays : (c : Config) (run : ℕ) (h : List Entry) (t : Standing) → StandsAfter c run h t → (m : Node) → In m t.nodes → stays c t m ≡ true
+pub kept_stays : (c : Config) (run : ℕ) (h : List Entry) (t : Standing) → StandingAgrees c run h t → (m : Node) → In m t.nodes → stays c t m ≡ true
 kept_stays c run h t kept m there =
     (let s = standing c run h in
     ap (λ (u : Standing). stays c u m) kept.stands.same
@@ -149,7 +149,7 @@ module _ (c : Config) (run : ℕ) (past : List Entry) (n : ℕ) (touched : ℕ �
 
 -- after an entry, behind what is kept
 pub lasts_where : (c : Config) (run : ℕ) (past : List Entry) (e : Entry) (touched : Touched) (s : Held) (mid : Standing)
-    → mid ≡ changed c run past e (seen s) → StandsAfter c run past (seen s)
+    → mid ≡ changed c run past e (seen s) → StandingAgrees c run past (seen s)
     → ((a : Activation) → In a s.activations.kept → a.number < 4294967296)
     → ((a b : Activation) → In a s.activations.kept → In b s.activations.kept → a.number ≡ b.number → a ≡ b)
     → SameOthers (is_touched touched) (seen s).activations (changed c run past e (seen s)).activations

@@ -23,7 +23,7 @@ use Rattle.history_standing.specs.Ends.{is_left, let_out, settled}
 use Rattle.history_standing.specs.Standings.{Standing, is_begun, is_complete, is_ending, is_used}
 use Rattle.history_standing.specs.Templates.{has_activator}
 use Rattle.history_standing.specs.Trees.{In}
-use Rattle.core_standing.specs.Kept.{StandsAfter}
+use Rattle.core_standing.specs.Kept.{StandingAgrees}
 use Rattle.core_standing.specs.Flying.{uses}
 use Rattle.core_standing.specs.Touched.{Others, SameOthers, Still}
 use Rattle.history_standing.proofs.Members.{image_in, in_either, in_image}
@@ -222,7 +222,7 @@ standing_still c run [] = objects_still c run c.objects (with_boots c.adapters r
 standing_still c run (e ∷ past) = settled_still c (changed c run past e (standing c run past))
 
 -- nor of what is kept of it
-pub kept_still : (c : Config) (run : ℕ) (h : List Entry) (t : Standing) → StandsAfter c run h t → Still c t
+pub kept_still : (c : Config) (run : ℕ) (h : List Entry) (t : Standing) → StandingAgrees c run h t → Still c t
 kept_still c run h t kept a there =
     elim (kept.stands.forgets.known a there) [
       | inl gone ↦ ap (let_out c t) gone ∙ still_in c t ∙ sym gone

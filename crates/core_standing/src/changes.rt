@@ -1,5 +1,5 @@
 //! What an entry changes, and so what stands after a history.
-ghost use Rattle.std.specs.Prelude.{◌≡◌, ◌∷◌, ◌≤◌, ◌<◌, ◌^◌, ℕ, List, None, false, true, if◌then◌else◌, length, reverse, option_copied, IfOk, IsOk, OnOk, OnErr};
+ghost use Rattle.std.specs.Prelude.{◌≡◌, ◌≤◌, ◌<◌, ◌^◌, ℕ, List, None, false, true, if◌then◌else◌, length, reverse, option_copied, IfOk, IsOk, OnOk, OnErr};
 ghost use Rattle.std.specs.List.{list_any};
 ghost use Rattle.poa_base.specs.declared.Entry.{Entry};
 ghost use Rattle.poa_base.specs.declared.Entry.TheVariants.{Incarnated, Tried};
@@ -9,7 +9,7 @@ ghost use Rattle.history_standing.specs.Opening as opens;
 ghost use Rattle.history_standing.specs.Keys as keys;
 ghost use Rattle.history_standing.specs.Logs.{command_in as command_of, is_accepted as accepts};
 ghost use Rattle.poa_history.specs.Entries as entries;
-ghost use Rattle.core_standing.specs.Kept.{KeepsNoneOver, StandsAfter};
+ghost use Rattle.core_standing.specs.Kept.{KeepsNoneOver, StandingAgrees, KeptFollows, StandingFollows, WhereItComes};
 ghost use Rattle.core_standing.specs.Seen.{seen};
 
 use crate::asked_commands::{command_in, is_accepted};
@@ -140,10 +140,9 @@ fn change(
     call: Option<&Call>,
     standing: &mut Standing,
 ) -> Result<(), WantMemory>
-    ensures ok { (past : List Entry) → stage ≡ entries.stage_at past entry.now
-        → option_copied call.entry ≡ entries.call_admitted past entry.now
-        → OnOk result (seen standing.new
-        ≡ changes.changed config.now run past entry.now (seen standing.old)) }
+    ensures ok { WhereItComes entry.now stage (option_copied call.entry)
+        (λ past. OnOk result (seen standing.new
+        ≡ changes.changed config.now run past entry.now (seen standing.old))) }
     ensures err { OnErr result (seen standing.new ≡ seen standing.old) }
     ensures ends { entries.takes_no_memory entry.now ≡ true
         → entries.names_servant entry.now ≡ false → IsOk result }
@@ -203,10 +202,8 @@ pub fn advance(
     call: Option<&Call>,
     standing: &mut Standing,
 ) -> Result<(), WantMemory>
-    ensures ok { (past : List Entry) → seen standing.old ≡ changes.standing config.now run past
-        → stage ≡ entries.stage_at past entry.now
-        → option_copied call.entry ≡ entries.call_admitted past entry.now
-        → OnOk result (seen standing.new ≡ changes.standing config.now run (entry.now ∷ past)) }
+    ensures ok { StandingFollows config.now run entry.now stage (option_copied call.entry)
+        (seen standing.old) result (seen standing.new) }
     ensures err { OnErr result (seen standing.new ≡ seen standing.old) }
     ensures ends { entries.takes_no_memory entry.now ≡ true
         → entries.names_servant entry.now ≡ false → IsOk result }
@@ -254,11 +251,9 @@ pub fn advance_kept(
     call: Option<&Call>,
     standing: &mut Standing,
 ) -> Result<(), WantMemory>
-    ensures ok { (past : List Entry) → StandsAfter config.now run past (seen standing.old)
-        → stage ≡ entries.stage_at past entry.now
-        → option_copied call.entry ≡ entries.call_admitted past entry.now
-        → OnOk result (StandsAfter config.now run (entry.now ∷ past) (seen standing.new)) }
-    ensures forgets { (past : List Entry) → StandsAfter config.now run past (seen standing.old)
+    ensures ok { KeptFollows config.now run entry.now stage (option_copied call.entry)
+        (seen standing.old) result (seen standing.new) }
+    ensures forgets { (past : List Entry) → StandingAgrees config.now run past (seen standing.old)
         → KeepsNoneOver config.now (seen standing.old)
         → stage ≡ entries.stage_at past entry.now
         → option_copied call.entry ≡ entries.call_admitted past entry.now

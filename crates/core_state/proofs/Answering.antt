@@ -32,7 +32,7 @@ use Rattle.poa_history.proofs.LegalSound.{legal_sound}
 use Rattle.poa_history.proofs.MannedKept.{all_manned}
 use Rattle.poa_history.proofs.OutIs.{out_complete}
 use Rattle.core_standing.specs.Seen.{forgotten}
-use Rattle.core_standing.specs.Kept.{Forgets, StandsAfter}
+use Rattle.core_standing.specs.Kept.{Forgets, StandingAgrees}
 use Rattle.core_standing.specs.Answers.{AnswersAs}
 use Rattle.core_standing.proofs.Kept.{any_alike, all_alike, find_alike}
 use Rattle.core_standing.proofs.ChangesAlike.{unmapped, mapped_alike, lived_alike}
@@ -46,7 +46,7 @@ find_same test other (x ∷ xs) same = ap₂ (λ b o. if b then Some x else o) (
 
 module _ (c : Config) (run limit : ℕ) (h : List Entry) (given : IsGiven c run) (alone : IsGivenAlone c run) (within : IsWithinLimits c limit)
     (legal : IsLegal c run limit h)
-    (t : Standing) (kept : StandsAfter c run h t) where
+    (t : Standing) (kept : StandingAgrees c run h t) where
   abbrev s : Standing
   s = standing c run h
 
@@ -186,5 +186,5 @@ module _ (c : Config) (run limit : ℕ) (h : List Entry) (given : IsGiven c run)
   }
 
 pub answers : (c : Config) (run limit : ℕ) (h : List Entry) → IsGiven c run → IsGivenAlone c run → IsWithinLimits c limit → IsLegal c run limit h
-    → (t : Standing) → StandsAfter c run h t → AnswersAs c run h t
+    → (t : Standing) → StandingAgrees c run h t → AnswersAs c run h t
 answers c run limit h given alone within legal t kept = answered c run limit h given alone within legal t kept

@@ -36,7 +36,7 @@ use Rattle.poa_history.proofs.LegalSound.{legal_sound}
 use Rattle.poa_history.proofs.MannedKept.{all_manned}
 use Rattle.poa_history.proofs.OutIs.{out_complete}
 use Rattle.poa_history.proofs.TurnTells.{incarnation_is}
-use Rattle.core_state.specs.Holds.{Holds, keeps_fresh, is_kept}
+use Rattle.core_state.specs.Holds.{ServantsAgree, keeps_fresh, is_kept}
 use Rattle.core_state.specs.Kept.{Kept, fresh_at, stored_in}
 use Rattle.core_state.specs.Steps.{Brings, IsBrought}
 use Rattle.core_state.proofs.FreshFrom.{kept, comes, fresh_from, found_activation, kept_by}
@@ -169,7 +169,7 @@ module _ (c : Config) (run limit : ℕ) (opened : Stored) (past : List Entry) (w
   abbrev brought_in : Option Activation → State
   brought_in o = elim o [ Some a ↦ restored (kind_brought c a) (stored c run opened past a.path a.oid) | None ↦ Fault ]
 
-  module _ (old new : Kept) (holds : Holds c run opened past old) (of_it : IsOf)
+  module _ (old new : Kept) (holds : ServantsAgree c run opened past old) (of_it : IsOf)
       (brings : IsBrought m of_it.it.path of_it.it.oid (restored (kind_brought c of_it.it) (stored_in old of_it.it.path of_it.it.oid)) old new) where
     fresh_after : (n : ℕ) → (if n == m then Some (restored (kind_brought c of_it.it) (stored_in old of_it.it.path of_it.it.oid)) else fresh_at old n) ≡
         (if is_kept t n then Some (if n == m then brought_in (activation_numbered s m) else state_of c run opened past (FreshServant n)) else None)
@@ -203,7 +203,7 @@ module _ (c : Config) (run limit : ℕ) (opened : Stored) (past : List Entry) (w
               (reserved-with_room old.store of_it.it.path of_it.it.oid)))
         ])
 
-    brought_then : Holds c run opened (e ∷ past) new
+    brought_then : ServantsAgree c run opened (e ∷ past) new
     brought_then = record {
       configured = λ k. ap (λ xs. unwrap_or (slice_get xs k) Fault) brings.configured ∙ holds.configured k;
       fresh = λ n. brings.fresh n ∙ fresh_after n;
@@ -211,5 +211,5 @@ module _ (c : Config) (run limit : ℕ) (opened : Stored) (past : List Entry) (w
       stored = λ p oid. ap (λ x. slots.stored x p oid) brings.store ∙ (stored-with_room old.store of_it.it.path of_it.it.oid p oid ∙ holds.stored p oid);
     }
 
-  pub brought_holds : (old new : Kept) → Holds c run opened past old → Brings c m (activation_numbered s m) old new → Holds c run opened (e ∷ past) new
+  pub brought_holds : (old new : Kept) → ServantsAgree c run opened past old → Brings c m (activation_numbered s m) old new → ServantsAgree c run opened (e ∷ past) new
   brought_holds old new holds brings = brought_then old new holds is_of_it (subst (λ o. Brings c m o old new) is_of_it.found brings)

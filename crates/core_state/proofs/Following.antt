@@ -18,7 +18,7 @@ use Rattle.history_standing.specs.Stages.{stage}
 use Rattle.history_standing.specs.Standings.{Standing}
 use Rattle.poa_history.specs.States.{acted, call_run, servant_run, state_of}
 use Rattle.core_state.specs.Comes.{Comes, HoldsThen, TellsThen, outcome_told, worker_of}
-use Rattle.core_state.specs.Holds.{Holds}
+use Rattle.core_state.specs.Holds.{ServantsAgree}
 use Rattle.core_state.specs.Kept.{Kept}
 use Rattle.core_standing.specs.Answers.{works_on}
 use Rattle.core_state.specs.Steps.{Brings, IsActed, Incarnates, Etherealizes, HasRoom, removed, removed_of, outcome_in}
@@ -56,7 +56,7 @@ module _ (c : Config) (e : Entry) (begun : Stage) (call : Option Call) (runs : O
 
   pub run_then : (w : ℕ) → e ≡ Run w → (new : Kept) → IsActed runs call old new → HoldsThen c e begun call runs s old new
   run_then w is new activations k =
-      subst (λ x. Holds c k.run k.opened (x ∷ k.past) new) (sym is)
+      subst (λ x. ServantsAgree c k.run k.opened (x ∷ k.past) new) (sym is)
       (run_holds c k.run k.limit k.opened k.past w k.given k.alone k.within (subst (λ x. IsLegal c k.run k.limit (x ∷ k.past)) is k.legal) old new k.holds
       (subst (λ x. IsActed (servant_run c k.run k.past (stage k.past w)) x old new) (call_runs w is k)
       (subst (λ x. IsActed x call old new) (runs_are w is k) activations)))
@@ -85,7 +85,7 @@ module _ (c : Config) (e : Entry) (begun : Stage) (call : Option Call) (runs : O
   pub incarnated_then : (w : ℕ) (answer : Incarnation) → e ≡ Incarnated w answer → (new : Kept) → Incarnates c answer s old new
       → HoldsThen c e begun call runs s old new
   incarnated_then w (Fresh m) is new brings = λ k.
-      subst (λ x. Holds c k.run k.opened (x ∷ k.past) new) (sym is)
+      subst (λ x. ServantsAgree c k.run k.opened (x ∷ k.past) new) (sym is)
       (brought_holds c k.run k.limit k.opened k.past w m k.given k.alone k.within (subst (λ x. IsLegal c k.run k.limit (x ∷ k.past)) is k.legal) old new k.holds
       (subst (λ o. Brings c m o old new) (k.stands.worked w m (ap works_on (brought_of w m is k))) brings))
   incarnated_then w (Named name) is new same = subst (HoldsThen c e begun call runs s old) (sym same) (quiet_then (ap is_quiet is))
@@ -114,7 +114,7 @@ module _ (c : Config) (e : Entry) (begun : Stage) (call : Option Call) (runs : O
   pub ended_then : (w : ℕ) (cleanup remaining : Bool) → e ≡ Etherealized w cleanup remaining → (new : Kept) → Etherealizes (removed s begun) old new
       → HoldsThen c e begun call runs s old new
   ended_then w cleanup remaining is new ends k =
-      subst (λ x. Holds c k.run k.opened (x ∷ k.past) new) (sym is)
+      subst (λ x. ServantsAgree c k.run k.opened (x ∷ k.past) new) (sym is)
       (ended_holds c k.run k.limit k.opened k.past w cleanup remaining k.given k.alone k.within
       (subst (λ x. IsLegal c k.run k.limit (x ∷ k.past)) is k.legal) old new k.holds
       (subst (λ o. Etherealizes o old new) (removed_at w cleanup remaining is k) ends))

@@ -17,7 +17,7 @@ use Rattle.history_standing.specs.Trees.{In}
 use Rattle.history_standing.specs.Changes.{standing}
 use Rattle.poa_history.specs.States.{state_of}
 use Rattle.poa_history.proofs.AloneKept.{all_open}
-use Rattle.core_state.specs.Holds.{Holds, is_fresh, keeps_fresh, is_kept}
+use Rattle.core_state.specs.Holds.{ServantsAgree, is_fresh, keeps_fresh, is_kept}
 use Rattle.core_state.specs.Kept.{Kept}
 use Rattle.core_state.proofs.FreshFrom.{kept_is, keeps_parts}
 
@@ -33,7 +33,7 @@ state_or_fault None = refl
 state_or_fault (Some conf) = refl
 
 pub opening_holds : (c : Config) (run : ℕ) (store : Slots) (s : Kept) → s.configured ≡ map (λ x. x.state) c.servants → s.fresh ≡ []
-    → ((p : List (List ℕ)) (oid : List ℕ) → slots.stored s.store p oid ≡ slots.stored store p oid) → Holds c run (slots.stored store) [] s
+    → ((p : List (List ℕ)) (oid : List ℕ) → slots.stored s.store p oid ≡ slots.stored store p oid) → ServantsAgree c run (slots.stored store) [] s
 opening_holds c run store s configured fresh copied = record {
   configured = λ k. ap (λ xs. unwrap_or (slice_get xs k) Fault) configured
       ∙ (ap (λ o. unwrap_or o Fault) (slice_get-map (λ x. x.state) c.servants k) ∙ state_or_fault (slice_get c.servants k));

@@ -20,7 +20,7 @@ use Rattle.poa_history.specs.Sound.{IsGiven, IsSound}
 use Rattle.history_standing.specs.Standings.{Standing}
 use Rattle.poa_history.specs.States.{Stored, state_of, stored}
 use Rattle.poa_history.proofs.LegalSound.{legal_sound}
-use Rattle.core_state.specs.Holds.{Holds, keeps_fresh, is_kept}
+use Rattle.core_state.specs.Holds.{ServantsAgree, keeps_fresh, is_kept}
 use Rattle.core_state.specs.Kept.{Kept, fresh_at, state_in, stored_in}
 use Rattle.core_state.proofs.FreshFrom.{IsComing, Tells, kept, comes, fresh_from, fresh_to, kept_is, kept_by}
 use Rattle.history_standing.proofs.Tests.{same_test}
@@ -97,9 +97,9 @@ module _ (c : Config) (run limit : ℕ) (opened : Stored) (past : List Entry) (e
     -- the states change by a function
     pub changed_holds : (f : Sid → State → State) → ((u : Sid) → state_of c run opened (e ∷ past) u ≡ f u (state_of c run opened past u))
         → ((p : List (List ℕ)) (oid : List ℕ) → stored c run opened (e ∷ past) p oid ≡ stored c run opened past p oid)
-        → (old new : Kept) → Holds c run opened past old → ((k : ℕ) → state_in new (NamedServant k) ≡ f (NamedServant k) (state_in old (NamedServant k)))
+        → (old new : Kept) → ServantsAgree c run opened past old → ((k : ℕ) → state_in new (NamedServant k) ≡ f (NamedServant k) (state_in old (NamedServant k)))
         → ((n : ℕ) → fresh_at new n ≡ option_map (f (FreshServant n)) (fresh_at old n)) → new.store ≡ old.store
-        → Holds c run opened (e ∷ past) new
+        → ServantsAgree c run opened (e ∷ past) new
     changed_holds f states_ stored_ old new holds configured fresh store = record {
       configured = λ k. configured k ∙ ap (f (NamedServant k)) (holds.configured k) ∙ sym (states_ (NamedServant k));
       fresh = λ n. fresh n ∙ ap (option_map (f (FreshServant n))) (holds.fresh n)
@@ -165,7 +165,7 @@ itself None = refl
 itself (Some x) = refl
 
 pub quiet_holds : (c : Config) (run limit : ℕ) (opened : Stored) (past : List Entry) (e : Entry) → IsGiven c run → IsWithinLimits c limit
-    → IsLegal c run limit (e ∷ past) → is_quiet e ≡ true → (old : Kept) → Holds c run opened past old → Holds c run opened (e ∷ past) old
+    → IsLegal c run limit (e ∷ past) → is_quiet e ≡ true → (old : Kept) → ServantsAgree c run opened past old → ServantsAgree c run opened (e ∷ past) old
 quiet_holds c run limit opened past e given within legal quiet old holds =
     changed_holds c run limit opened past e given within legal (quiet_leaves e quiet) (λ u x. x) (state_same c run opened past e quiet)
     (stored_same c run opened past e quiet) old old holds (λ k. refl) (λ n. itself (fresh_at old n)) refl

@@ -31,7 +31,7 @@ use Rattle.poa_history.proofs.AloneKept.{stands_alone}
 use Rattle.poa_history.proofs.LegalSound.{legal_sound}
 use Rattle.poa_history.proofs.LivesKept.{has_lifetime}
 use Rattle.poa_history.proofs.MannedKept.{all_manned}
-use Rattle.core_state.specs.Holds.{Holds, is_fresh, is_kept}
+use Rattle.core_state.specs.Holds.{ServantsAgree, is_fresh, is_kept}
 use Rattle.core_state.specs.Kept.{Kept}
 use Rattle.core_state.specs.Steps.{IsActed, after_run, outcome_in}
 use Rattle.core_state.proofs.FreshFrom.{found_activation, kept_by, keeps_from}
@@ -97,15 +97,15 @@ module _ (c : Config) (run limit : ℕ) (opened : Stored) (past : List Entry) (w
       by_stage (Ran r) at is = absurd (let e : None ≡ Some (FreshServant n) = is in cc)
       by_stage (Removing m) at is = absurd (let e : None ≡ Some (FreshServant n) = is in cc)
 
-  pub run_holds : (old new : Kept) → Holds c run opened past old → IsActed (servant_run c run past (stage past w)) (call_run past (stage past w)) old new
-      → Holds c run opened (Run w ∷ past) new
+  pub run_holds : (old new : Kept) → ServantsAgree c run opened past old → IsActed (servant_run c run past (stage past w)) (call_run past (stage past w)) old new
+      → ServantsAgree c run opened (Run w ∷ past) new
   run_holds old new holds activations =
       changed_holds c run limit opened past (Run w) given within legal refl
       (λ u x. after_run u (servant_run c run past (stage past w)) (call_run past (stage past w)) x) (λ u. refl)
       (λ p oid. refl) old new holds activations.configured activations.fresh activations.store
 
   -- its outcome is that of its state
-  pub run_tells : (old : Kept) → Holds c run opened past old → (call : Option Call)
+  pub run_tells : (old : Kept) → ServantsAgree c run opened past old → (call : Option Call)
       → outcome_in (servant_run c run past (stage past w)) call old ≡ option_map (λ u. (acted (state_of c run opened past u) call).1)
       (servant_run c run past (stage past w))
   run_tells old holds call = by_servant (servant_run c run past (stage past w)) refl

@@ -18,19 +18,19 @@ use Rattle.poa_history.specs.Runs.{IsRun}
 use Rattle.history_laws.proofs.Opened.{given, alone, within}
 use Rattle.core_standing.specs.declared.standing.Standing.{Standing}
 use Rattle.core_standing.specs.Answers.{AnswersAs}
-use Rattle.core_standing.specs.Kept.{KeepsNoneOver, StandsFor, StandsAfter}
+use Rattle.core_standing.specs.Kept.{KeepsNoneOver, StandsFor, StandingAgrees}
 use Rattle.core_standing.specs.Seen.{seen}
 use Rattle.poa_history.specs.Entries.{stage_at, call_admitted}
 use Rattle.core_state.proofs.Answering.{answers}
 use Rattle.core_settings.specs.declared.settings.Settings.{Settings}
-use Rattle.core_settings.specs.Told.{Tells, may_grow}
-use Rattle.core_state.specs.Holds.{Holds}
+use Rattle.core_settings.specs.Told.{SettingsAgree, may_grow}
+use Rattle.core_state.specs.Holds.{ServantsAgree}
 use Rattle.core_state.specs.Kept.{kept_in}
 use Rattle.core_state.specs.Comes.{Comes, worker_of}
 use Rattle.core_state.proofs.QuietHolds.{quiet_holds, is_quiet}
 use Rattle.core_state.specs.declared.coming.Coming.{Coming}
 use Rattle.core_state.specs.declared.state.State.{State}
-use Rattle.core_state.specs.State.{IsState, IsNext, call_spoken, serves}
+use Rattle.core_state.specs.State.{StateAgrees, IsNext, call_spoken, serves}
 use Rattle.core_state.proofs.Growing.{growing_stands}
 
 pub ok_then : {T E : Type 0} {P Q : Type 0} (r : Result T E) → (P → Q) → OnOk r P → OnOk r Q
@@ -40,8 +40,8 @@ ok_then (Err x) f p = tt
 -- no servant acts, comes or leaves
 pub quiet_state : (c : Config) (run limit : ℕ) (opened : Stored) (past : List Entry) (e : Entry) (s : State) (stands : Standing) (set : Settings)
     → IsRun c run limit (e ∷ past) → is_quiet e ≡ true
-    → Holds c run opened past (kept_in s.servants) → StandsAfter c run (e ∷ past) (seen stands) → KeepsNoneOver c (seen stands) → Tells c (e ∷ past) set
-    → IsState c run opened (e ∷ past) (record { standing = stands; settings = set; servants = s.servants })
+    → ServantsAgree c run opened past (kept_in s.servants) → StandingAgrees c run (e ∷ past) (seen stands) → KeepsNoneOver c (seen stands) → SettingsAgree c (e ∷ past) set
+    → StateAgrees c run opened (e ∷ past) (record { standing = stands; settings = set; servants = s.servants })
 quiet_state c run limit opened past e s stands set follows quiet held stands_is none_over tells =
     record {
       stands = stands_is;
@@ -66,12 +66,12 @@ pub admits_quietly : (e : Entry) (w r : ℕ) (v : Verdict) → e ≡ Admit w r v
 admits_quietly e w r v is = ap is_quiet is
 
 -- an entry that changes nothing that stands leaves what is kept of it
-pub kept_still : (c : Config) (run : ℕ) (past : List Entry) (e : Entry) (t : Stood) → standing c run (e ∷ past) ≡ standing c run past → StandsAfter c run past t
-    → StandsAfter c run (e ∷ past) t
+pub kept_still : (c : Config) (run : ℕ) (past : List Entry) (e : Entry) (t : Stood) → standing c run (e ∷ past) ≡ standing c run past → StandingAgrees c run past t
+    → StandingAgrees c run (e ∷ past) t
 kept_still c run past e t still kept = record { stands = subst (λ s. StandsFor c s t) (sym still) kept.stands; few = kept.few }
 
 pub growing_stays : (c : Config) (run : ℕ) (past : List Entry) (e : Entry) (w r : ℕ) (v : Verdict) → e ≡ Admit w r v → may_grow (command_done past e) ≡ true
-    → (t : Stood) → StandsAfter c run past t → StandsAfter c run (e ∷ past) t
+    → (t : Stood) → StandingAgrees c run past t → StandingAgrees c run (e ∷ past) t
 growing_stays c run past e w r v is grows t =
     kept_still c run past e t
     (subst (λ x. may_grow (command_done past x) ≡ true → standing c run (x ∷ past) ≡ standing c run past) (sym is) (growing_stands c run past w r v) grows)
@@ -129,7 +129,7 @@ pub begun_by_worker : (past : List Entry) (e : Entry) (begun : Stage) (w : ℕ) 
 begun_by_worker past e begun w is at by = at ∙ begun_there past w e is by
 
 -- what is kept answers as what stands
-pub answers_state : (c : Config) (run limit : ℕ) (opened : Stored) (h : List Entry) (s : State) → IsRun c run limit h → IsState c run opened h s
+pub answers_state : (c : Config) (run limit : ℕ) (opened : Stored) (h : List Entry) (s : State) → IsRun c run limit h → StateAgrees c run opened h s
     → AnswersAs c run h (seen s.standing)
 answers_state c run limit opened h s runs state =
     answers c run limit h (given c run limit h runs) (alone c run limit h runs) (within c run limit h runs) runs.legal (seen s.standing) state.stands

@@ -42,7 +42,7 @@ use Rattle.poa_history.proofs.AloneKept.{stands_alone}
 use Rattle.poa_history.proofs.LegalSound.{legal_sound}
 use Rattle.poa_history.proofs.MannedKept.{all_manned}
 use Rattle.poa_history.proofs.TurnTells.{removal_is}
-use Rattle.core_state.specs.Holds.{Holds, is_fresh, keeps_fresh, is_kept}
+use Rattle.core_state.specs.Holds.{ServantsAgree, is_fresh, keeps_fresh, is_kept}
 use Rattle.core_state.specs.Kept.{Kept, fresh_at}
 use Rattle.core_state.specs.Steps.{Etherealizes, HasRoom, IsStored, Stores, fresh_number, removed, removed_of}
 use Rattle.core_state.proofs.FreshFrom.{kept, comes, fresh_from, found_activation, kept_is, kept_by, keeps_from, keeps_parts}
@@ -176,14 +176,14 @@ module _ (c : Config) (run limit : ℕ) (opened : Stored) (past : List Entry) (w
       let stages : Removing of_it.number ≡ Removing n = sym of_it.begun_ ∙ (ap (stage past) same_worker ∙ tells.4) in
       other keeps (let f : Removing of_it.number ≡ Removing n = stages in let g : of_it.number ≡ n = cc in sym g))
 
-  kept_room : (old : Kept) → Holds c run opened past old → (b : Activation) → In b t.activations → keeps_fresh b ≡ true → IsReserved old.store b.path b.oid
+  kept_room : (old : Kept) → ServantsAgree c run opened past old → (b : Activation) → In b t.activations → keeps_fresh b ≡ true → IsReserved old.store b.path b.oid
   kept_room old holds b there keeps =
       elim (fresh_from c run past e b there keeps) [
         | kept a was later kept_ ↦ room_later c old.store a b later (holds.room a was kept_)
         | comes a was later coming ↦ absurd (let f : Etherealized w cleanup remaining ≡ Incarnated coming.worker (Fresh coming.servant) = coming.same in cc)
       ]
 
-  module _ (old : Kept) (holds : Holds c run opened past old) (of_it : IsOf) where
+  module _ (old : Kept) (holds : ServantsAgree c run opened past old) (of_it : IsOf) where
     -- a fresh servant is kept until then
     was_kept : (n : ℕ) → fresh_number of_it.it.phase ≡ Some n → (n ≡ of_it.number) × (is_kept s n ≡ true)
     was_kept n has =
@@ -200,7 +200,7 @@ module _ (c : Config) (run limit : ℕ) (opened : Stored) (past : List Entry) (w
         ] refl
 
     -- where it has none, nothing is stored
-    none_then : fresh_number of_it.it.phase ≡ None → Holds c run opened (e ∷ past) old
+    none_then : fresh_number of_it.it.phase ≡ None → ServantsAgree c run opened (e ∷ past) old
     none_then none = record {
       configured = holds.configured;
       fresh = λ n. holds.fresh n ∙ ap (λ b. if b then Some (state_of c run opened past (FreshServant n)) else None) (sym (others_kept of_it n (unkept n)));
@@ -226,7 +226,7 @@ module _ (c : Config) (run limit : ℕ) (opened : Stored) (past : List Entry) (w
 
     -- else its state is stored
     stored_then : (n : ℕ) → fresh_number of_it.it.phase ≡ Some n → (new : Kept)
-        → IsStored n of_it.it.path of_it.it.oid (state_of c run opened past (FreshServant n)) old new → Holds c run opened (e ∷ past) new
+        → IsStored n of_it.it.path of_it.it.oid (state_of c run opened past (FreshServant n)) old new → ServantsAgree c run opened (e ∷ past) new
     stored_then n has new stores = record {
       configured = λ k. ap (λ xs. unwrap_or (slice_get xs k) Fault) stores.configured ∙ holds.configured k;
       fresh = λ m. stores.fresh m ∙ fresh_after m;
@@ -269,19 +269,19 @@ module _ (c : Config) (run limit : ℕ) (opened : Stored) (past : List Entry) (w
             (stores_is of_it p oid ∙ ap (λ x. if same_path of_it.it.path p && same_bytes of_it.it.oid oid then (leaver x) else None)
             (number_of of_it.it.phase n has))))
 
-    pub ended_then : (new : Kept) → Etherealizes (removed_of (Some of_it.it)) old new → Holds c run opened (e ∷ past) new
+    pub ended_then : (new : Kept) → Etherealizes (removed_of (Some of_it.it)) old new → ServantsAgree c run opened (e ∷ past) new
     ended_then new =
         elim (fresh_number of_it.it.phase) as (λ o. fresh_number of_it.it.phase ≡ o → Etherealizes (option_map (λ n. (of_it.it, n)) o) old new
-        → Holds c run opened (e ∷ past) new) [
-          | None ↦ λ none same. subst (Holds c run opened (e ∷ past)) (sym same) (none_then none)
+        → ServantsAgree c run opened (e ∷ past) new) [
+          | None ↦ λ none same. subst (ServantsAgree c run opened (e ∷ past)) (sym same) (none_then none)
           | Some n ↦
               λ has ends. stored_then n has new
               (subst (λ o. Stores n of_it.it.path of_it.it.oid o old new)
               (holds.fresh n ∙ ap (λ b. if b then Some (state_of c run opened past (FreshServant n)) else None) (was_kept n has).1) ends)
         ] refl
 
-  pub ended_holds : (old new : Kept) → Holds c run opened past old → Etherealizes (removed s (stage past w)) old new → Holds c run opened (e ∷ past) new
+  pub ended_holds : (old new : Kept) → ServantsAgree c run opened past old → Etherealizes (removed s (stage past w)) old new → ServantsAgree c run opened (e ∷ past) new
   ended_holds old new holds ends = ended_then old holds is_of_it new (subst (λ o. Etherealizes o old new) (removed_is is_of_it) ends)
 
-  pub room_held : (old : Kept) → Holds c run opened past old → HasRoom (removed s (stage past w)) old
+  pub room_held : (old : Kept) → ServantsAgree c run opened past old → HasRoom (removed s (stage past w)) old
   room_held old holds = subst (λ o. HasRoom o old) (sym (removed_is is_of_it)) (room_there old holds is_of_it)

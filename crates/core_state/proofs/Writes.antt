@@ -18,7 +18,7 @@ use Rattle.poa_base.specs.Store as slots
 use Rattle.poa_base.specs.Store.{IsReserved, with_room}
 use Rattle.poa_base.proofs.Stored.{stored-with_room, reserved-insert}
 use Rattle.poa_history.specs.States.{Stored, acted}
-use Rattle.core_state.specs.Holds.{Holds}
+use Rattle.core_state.specs.Holds.{ServantsAgree}
 use Rattle.core_state.specs.Kept.{Kept}
 use Rattle.core_state.specs.Steps.{IsUnchanged}
 
@@ -110,8 +110,8 @@ pub at_error : {T E P : Type 0} (r : Result T E) → P → OnErr r P
 at_error (Ok x) is = tt
 at_error (Err e) is = is
 
-pub unchanged_holds : (c : Config) (run : ℕ) (opened : Stored) (past : List Entry) (old new : Kept) → IsUnchanged old new → Holds c run opened past old
-    → Holds c run opened past new
+pub unchanged_holds : (c : Config) (run : ℕ) (opened : Stored) (past : List Entry) (old new : Kept) → IsUnchanged old new → ServantsAgree c run opened past old
+    → ServantsAgree c run opened past new
 unchanged_holds c run opened past old new same holds = record {
   configured = λ k. ap (λ xs. state_at xs k) same.configured ∙ holds.configured k;
   fresh = λ n. ap (lookup (is_at (nat_cmp n))) same.fresh ∙ holds.fresh n;

@@ -15,7 +15,7 @@ use Rattle.history_standing.specs.Stages.{stage}
 use Rattle.history_standing.specs.Standings.{Standing}
 use Rattle.poa_history.specs.States.{Stored, acted, call_run, servant_run, state_of}
 use Rattle.core_standing.specs.Answers.{AnswersAs}
-use Rattle.core_state.specs.Holds.{Holds}
+use Rattle.core_state.specs.Holds.{ServantsAgree}
 use Rattle.core_state.specs.Kept.{Kept}
 use Rattle.core_state.specs.Steps.{is_new}
 
@@ -47,11 +47,11 @@ pub record Comes (c : Config) (e : Entry) (begun : Stage) (call : Option Call) (
   pub at_stage : (w : ℕ) → worker_of e ≡ Some w → begun ≡ stage past w
   pub call_is : call ≡ call_run past begun
   pub servant_is : runs ≡ servant_run c run past begun
-  pub holds : Holds c run opened past servants
+  pub holds : ServantsAgree c run opened past servants
 
 -- in whatever history the entry comes, the servants are then in its states
 abbrev pub HoldsThen : Config → Entry → Stage → Option Call → Option Sid → Standing → Kept → Kept → Type 0
-HoldsThen c e begun call runs s old new = (k : Comes c e begun call runs s old) → Holds c k.run k.opened (e ∷ k.past) new
+HoldsThen c e begun call runs s old new = (k : Comes c e begun call runs s old) → ServantsAgree c k.run k.opened (e ∷ k.past) new
 
 -- at a Run the servant that runs has its outcome
 abbrev pub outcome_told : Config → ℕ → Stored → List Entry → Entry → Option Sid → Option Call → Option Outcome

@@ -37,7 +37,7 @@ is_kept s n = is_kept_by (activation_numbered s n)
 abbrev pub fresh_of : Config → ℕ → Stored → List Entry → ℕ → Option State
 fresh_of c run opened past n = if is_kept (standing c run past) n then Some (state_of c run opened past (FreshServant n)) else None
 
-pub record Holds (c : Config) (run : ℕ) (opened : Stored) (past : List Entry) (s : Kept) : Type 0 where
+pub record ServantsAgree (c : Config) (run : ℕ) (opened : Stored) (past : List Entry) (s : Kept) : Type 0 where
   -- each configured servant is in its state
   pub configured : (k : ℕ) → state_in s (NamedServant k) ≡ state_of c run opened past (NamedServant k)
   -- of the fresh ones those are kept that were brought and weren't etherealized, each in its state

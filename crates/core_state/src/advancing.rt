@@ -1,12 +1,11 @@
 //! An entry of a worker changes what a history comes to.
-ghost use Rattle.std.specs.Prelude.{◌≡◌, ◌∷◌, ℕ, true, None, if◌then◌else◌, List, option_copied, IfOk, IsOk, OnOk, OnErr};
+ghost use Rattle.std.specs.Prelude.{◌≡◌, ℕ, true, None, if◌then◌else◌, option_copied, IsOk, OnErr};
 ghost use Rattle.poa_base.specs.declared.Entry.{Entry};
 ghost use Rattle.history_standing.specs.Logs as logs;
-ghost use Rattle.poa_history.specs.States.{Stored};
 ghost use Rattle.core_settings.specs.Told.{may_grow};
 ghost use Rattle.poa_base.specs.declared.Attempt.{Attempt};
 ghost use Rattle.core_state.specs.Comes.{may_want};
-ghost use Rattle.core_state.specs.State.{IsNext, IsState, only_ends, outcome_of, serves};
+ghost use Rattle.core_state.specs.State.{only_ends, serves, ComesNext, GivesOutcome, StateFollows, StateStays};
 
 use crate::coming::Coming;
 use crate::state::State;
@@ -48,12 +47,8 @@ fn admit(
     state: &mut State,
 ) -> Result<(), WantMemory>
     requires { (w : ℕ) × (r : ℕ) × (coming.now.entry.now ≡ Entry.Admit w r verdict.now) }
-    ensures ok { (limit : ℕ) (opened : Stored) (past : List Entry)
-        → IsNext config.now run limit opened past coming.now state.old
-        → OnOk result (IsState config.now run opened (coming.now.entry.now ∷ past) state.new) }
-    ensures err { (opened : Stored) (past : List Entry)
-        → IsState config.now run opened past state.old
-        → OnErr result (IsState config.now run opened past state.new) }
+    ensures ok { StateFollows config.now run coming.now state.old result state.new }
+    ensures err { StateStays config.now run state.old result state.new }
 {
     let command = done(coming.call, verdict);
     if grows(command) {
@@ -80,12 +75,8 @@ fn tried(
     state: &mut State,
 ) -> Result<(), WantMemory>
     requires { (w : ℕ) × (answer : Attempt) × (coming.now.entry.now ≡ Entry.Tried w answer) }
-    ensures ok { (limit : ℕ) (opened : Stored) (past : List Entry)
-        → IsNext config.now run limit opened past coming.now state.old
-        → OnOk result (IsState config.now run opened (coming.now.entry.now ∷ past) state.new) }
-    ensures err { (opened : Stored) (past : List Entry)
-        → IsState config.now run opened past state.old
-        → OnErr result (IsState config.now run opened past state.new) }
+    ensures ok { StateFollows config.now run coming.now state.old result state.new }
+    ensures err { StateStays config.now run state.old result state.new }
 {
     core_standing::advance_kept(
         alloc,
@@ -107,27 +98,17 @@ fn served(
     coming: &Coming<'_>,
     state: &mut State,
 ) -> Result<Option<Outcome>, WantMemory>
-    requires next { (limit : ℕ) × (opened : Stored) × (past : List Entry)
-        × IsNext config.now run limit opened past coming.now state.old }
+    requires next { ComesNext config.now run coming.now state.old }
     requires kind { serves coming.now.entry.now ≡ true }
-    ensures ok { (limit : ℕ) (opened : Stored) (past : List Entry)
-        → IsNext config.now run limit opened past coming.now state.old
-        → OnOk result (IsState config.now run opened (coming.now.entry.now ∷ past) state.new) }
-    ensures outcome { (limit : ℕ) (opened : Stored) (past : List Entry)
-        → IsNext config.now run limit opened past coming.now state.old
-        → IfOk result (λ outcome. outcome ≡ outcome_of config.now run opened past coming.now) }
-    ensures err { (opened : Stored) (past : List Entry)
-        → IsState config.now run opened past state.old
-        → OnErr result (IsState config.now run opened past state.new) }
+    ensures ok { StateFollows config.now run coming.now state.old result state.new }
+    ensures outcome { GivesOutcome config.now run coming.now state.old result }
+    ensures err { StateStays config.now run state.old result state.new }
     ensures ends { OnErr result (may_want coming.now.entry.now ≡ true) }
 {
     let outcome = crate::servants_follow::advance(
         alloc,
         config,
-        coming.entry,
-        coming.stage,
-        coming.call,
-        coming.runs,
+        coming,
         &state.standing,
         &mut state.servants,
     )?;
@@ -154,17 +135,10 @@ pub fn advance(
     coming: &Coming<'_>,
     state: &mut State,
 ) -> Result<Option<Outcome>, WantMemory>
-    requires { (limit : ℕ) × (opened : Stored) × (past : List Entry)
-        × IsNext config.now run limit opened past coming.now state.old }
-    ensures ok { (limit : ℕ) (opened : Stored) (past : List Entry)
-        → IsNext config.now run limit opened past coming.now state.old
-        → OnOk result (IsState config.now run opened (coming.now.entry.now ∷ past) state.new) }
-    ensures outcome { (limit : ℕ) (opened : Stored) (past : List Entry)
-        → IsNext config.now run limit opened past coming.now state.old
-        → IfOk result (λ outcome. outcome ≡ outcome_of config.now run opened past coming.now) }
-    ensures err { (opened : Stored) (past : List Entry)
-        → IsState config.now run opened past state.old
-        → OnErr result (IsState config.now run opened past state.new) }
+    requires { ComesNext config.now run coming.now state.old }
+    ensures ok { StateFollows config.now run coming.now state.old result state.new }
+    ensures outcome { GivesOutcome config.now run coming.now state.old result }
+    ensures err { StateStays config.now run state.old result state.new }
     ensures ends { only_ends coming.now.entry.now ≡ true → IsOk result }
 {
     match coming.entry {

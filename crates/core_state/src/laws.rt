@@ -9,12 +9,12 @@ ghost use Rattle.poa_history.specs.Legal.{IsLegal};
 ghost use Rattle.poa_history.specs.Sound.{IsGiven};
 ghost use Rattle.history_standing.specs.Standings.{Standing};
 ghost use Rattle.core_standing.specs.Answers.{AnswersAs};
-ghost use Rattle.core_standing.specs.Kept.{StandsAfter};
+ghost use Rattle.core_standing.specs.Kept.{StandingAgrees};
 
 /// After a legal history what is kept, where some activations that are over may be forgotten, answers as what stands.
 pub fn what_is_kept_answers()
     ensures { (c : Config) (run limit : ℕ) (h : List Entry) → IsGiven c run → IsGivenAlone c run
         → IsWithinLimits c limit
         → IsLegal c run limit h
-        → (t : Standing) → StandsAfter c run h t → AnswersAs c run h t }
+        → (t : Standing) → StandingAgrees c run h t → AnswersAs c run h t }
 {}

@@ -9,7 +9,7 @@ ghost use Rattle.poa_history.specs.Sound.{IsGiven};
 ghost use Rattle.history_standing.specs.Stages.{stage};
 ghost use Rattle.poa_history.specs.States.{Stored};
 ghost use Rattle.history_standing.specs.declared.stage.Stage.{Stage};
-ghost use Rattle.core_state.specs.Holds.{Holds};
+ghost use Rattle.core_state.specs.Holds.{ServantsAgree};
 ghost use Rattle.core_state.specs.Kept.{Kept};
 ghost use Rattle.core_state.specs.Runs.{HasServant};
 ghost use Rattle.core_state.specs.Steps.{IsUnchanged};
@@ -18,7 +18,7 @@ ghost use Rattle.core_state.specs.Steps.{IsUnchanged};
 pub fn unchanged_servants_hold()
     ensures { (c : Config) (run : ℕ) (opened : Stored) (past : List Entry) (old new : Kept)
         → IsUnchanged old new
-        → Holds c run opened past old → Holds c run opened past new }
+        → ServantsAgree c run opened past old → ServantsAgree c run opened past new }
 {}
 
 /// A request that is to run has its servant: that of its activation, the default servant of its adapter, or the

@@ -1,7 +1,7 @@
 //! The servants before the first entry.
 ghost use Rattle.std.specs.Prelude.{◌≡◌, ℕ, [], List, IfOk, map};
 ghost use Rattle.poa_base.specs.Store as slots;
-ghost use Rattle.core_state.specs.Holds.{Holds};
+ghost use Rattle.core_state.specs.Holds.{ServantsAgree};
 ghost use Rattle.core_state.specs.Kept.{kept_in};
 
 use crate::servants::Servants;
@@ -40,7 +40,7 @@ fn copied(alloc: Global, store: &Store) -> Result<Store, WantMemory>
 pub fn opening(alloc: Global, config: &Config, store: &Store) -> Result<Servants, WantMemory>
     ensures { IfOk result
         (λ servants. (run : ℕ)
-        → Holds config.now run (slots.stored store.now) [] (kept_in servants)) }
+        → ServantsAgree config.now run (slots.stored store.now) [] (kept_in servants)) }
 {
     Ok(Servants {
         configured: configured(alloc, config)?,

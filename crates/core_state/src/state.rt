@@ -1,7 +1,7 @@
 //! What stands, what is set, and the servants.
 ghost use Rattle.std.specs.Prelude.{[], IfOk};
 ghost use Rattle.poa_base.specs.Store.{stored as stored_in};
-ghost use Rattle.core_state.specs.State.{IsState};
+ghost use Rattle.core_state.specs.State.{StateAgrees};
 
 use crate::servants::Servants;
 use core_settings::Settings;
@@ -22,7 +22,7 @@ pub struct State {
 
 /// What there is before the first entry of a run.
 pub fn opening(alloc: Global, config: &Config, run: u32, store: &Store) -> Result<State, WantMemory>
-    ensures { IfOk result (λ state. IsState config.now run (stored_in store.now) [] state) }
+    ensures { IfOk result (λ state. StateAgrees config.now run (stored_in store.now) [] state) }
 {
     Ok(State {
         standing: core_standing::opening(alloc, config, run)?,

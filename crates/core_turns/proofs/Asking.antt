@@ -27,7 +27,7 @@ use Rattle.held_queue.specs.Blocks.{Blocks, hold_for}
 use Rattle.held_queue.specs.declared.hold.Hold.{Hold}
 use Rattle.held_queue.specs.declared.hold.Hold.TheVariants.{Main}
 use Rattle.held_queue.proofs.HoldRows.{held_blocks, blocks_held}
-use Rattle.held_queue.specs.Held.{IsGripped, AreHeld, IsSettled}
+use Rattle.held_queue.specs.Held.{IsGripped, HeldAgrees, IsSettled}
 use Rattle.held_queue.specs.Numbers.{has}
 use Rattle.held_queue.specs.Rows.{in_rows, is_asked}
 use Rattle.poa_history.specs.Waiting.{is_waiting}
@@ -85,7 +85,7 @@ module _ (c : Config) (run : ℕ) (h : List Entry) (w : ℕ) where
   pub waiting_arrived : (r : ℕ) → is_waiting h r ≡ true → r < arrivals h
   waiting_arrived r waits = arrived_by (is_waiting h) (arrivals h) r (waiting_beyond h r) waits
 
-  module _ (q : HeldQueue) (held : AreHeld c run h q) (settled : IsSettled w q) where
+  module _ (q : HeldQueue) (held : HeldAgrees c run h q) (settled : IsSettled w q) where
     -- a call that waits, and that no call that is ready is ahead of, is held
     held_none : (r : ℕ) → r < arrivals h → is_waiting h r ≡ true → ((p : ℕ) → has q.ready.heap p ≡ true → p ≤ r → ⊥) → give r ≡ None
     held_none r less waits none =

@@ -3,7 +3,6 @@
 ghost use Rattle.std.specs.Prelude.{◌≡◌, ◌==◌, ◌&&◌, ◌||◌, ℕ, List, Some, None, if◌then◌else◌, not, suc, take, drop, length, nat_lt, nat_le, is_some, IfOk};
 ghost use Rattle.poa_base.specs.declared.limits.TheConstants.{ADAPTERS};
 ghost use Rattle.poa_base.specs.declared.Answer.{Answer};
-ghost use Rattle.poa_base.specs.declared.Entry.{Entry};
 ghost use Rattle.poa_base.specs.declared.Reason.{Reason};
 ghost use Rattle.poa_base.specs.declared.Verdict.{Verdict};
 ghost use Rattle.history_standing.specs.Logs.{endpoint_of as endpoint_is};
@@ -15,7 +14,7 @@ ghost use Rattle.history_standing.specs.Standings as stands;
 ghost use Rattle.history_standing.specs.Opening.{made_id as id_made};
 ghost use Rattle.history_standing.specs.Nodes as tree;
 ghost use Rattle.core_standing.specs.Seen.{seen};
-ghost use Rattle.core_settings.specs.Told.{Tells};
+ghost use Rattle.core_settings.specs.Told.{SettingsTell};
 ghost use Rattle.poa_base.specs.declared.Config.{Config as Conf};
 ghost use Rattle.history_standing.specs.Templates as configured;
 
@@ -64,8 +63,8 @@ fn manager_row(
     name: &Name,
     order: Order,
 ) -> Result<Option<Verdict>, WantMemory>
-    ensures { (past : List Entry) → Tells config.now past settings.now
-        → IfOk result (λ verdict. verdict ≡ rows.manager_row config.now past name.now order) }
+    ensures { SettingsTell config.now settings.now (λ past. IfOk result
+        (λ verdict. verdict ≡ rows.manager_row config.now past name.now order)) }
 {
     let Some(number) = manager_number(config, name) else {
         return Ok(refusal(Reason::NoManager));
@@ -344,9 +343,8 @@ fn destroy_row(standing: &Standing, path: &[Name], wait: bool) -> Option<Verdict
 }
 
 fn unforward_row(config: &Config, settings: &Settings, path: &Path) -> Option<Verdict>
-    ensures { (past : List Entry) → Tells config.now past settings.now
-        → result ≡ (if is_some
-        (endpoint_is config.now past path.now) then rows.good else rows.refusal Reason.NoForward) }
+    ensures { SettingsTell config.now settings.now (λ past. result ≡ (if is_some
+        (endpoint_is config.now past path.now) then rows.good else rows.refusal Reason.NoForward)) }
 {
     match endpoint_of(config, settings, path.as_slice()) {
         Some(_) => good(),
@@ -364,9 +362,8 @@ pub fn command_verdict(
     settings: &Settings,
     command: &Command,
 ) -> Result<Option<Verdict>, WantMemory>
-    ensures { (past : List Entry) → Tells config.now past settings.now
-        → IfOk result (λ verdict. verdict
-        ≡ rows.command_verdict config.now run past (seen standing.now) command.now) }
+    ensures { SettingsTell config.now settings.now (λ past. IfOk result (λ verdict. verdict
+        ≡ rows.command_verdict config.now run past (seen standing.now) command.now)) }
 {
     match command {
         Command::Manager { manager, order } => manager_row(config, settings, manager, *order),

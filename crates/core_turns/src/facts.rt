@@ -1,20 +1,19 @@
 //! What stands about a request or a locate: the facts that the table of verdicts asks.
-ghost use Rattle.std.specs.Prelude.{◌≡◌, ◌==◌, ◌∷◌, [], ℕ, true, false, is_some, List, Some, None, if◌then◌else◌, option_and_then, option_copied, IfOk};
+ghost use Rattle.std.specs.Prelude.{◌≡◌, ◌==◌, ◌∷◌, [], true, false, is_some, List, Some, None, if◌then◌else◌, option_and_then, option_copied, IfOk};
 ghost use Rattle.poa_base.specs.declared.Entry.{Entry};
 ghost use Rattle.poa_choose.specs.declared.KeyFact.TheVariants.{OtherRun, Persistent, Transient};
-ghost use Rattle.history_standing.specs.Arrivals as calls;
 ghost use Rattle.history_standing.specs.Situations as situations;
 ghost use Rattle.history_standing.specs.Keys as keys;
 ghost use Rattle.history_standing.specs.Templates as templates;
-ghost use Rattle.core_standing.specs.Answers.{AnswersAs};
 ghost use Rattle.core_standing.specs.Seen.{seen};
 ghost use Rattle.history_standing.specs.Walks.{place_met as place_is, walk as walk_along};
-ghost use Rattle.core_settings.specs.Told.{Tells};
+ghost use Rattle.core_settings.specs.Told.{SettingsAgree, SettingsTell};
 ghost use Rattle.core_turns.specs.Said.{IsAsSaid};
 ghost use Rattle.core_turns.specs.Templates.{IsTemplate};
 ghost use Rattle.core_turns.specs.Ways.{IsWay};
 ghost use Rattle.poa_base.specs.declared.Config.{Config as Conf};
 ghost use Rattle.history_standing.specs.declared.found.Found.{Found as FoundIs};
+ghost use Rattle.core_turns.specs.Told.{ArrivalTells};
 
 use crate::commands::is_bad_for;
 use crate::rules::located_among;
@@ -167,8 +166,8 @@ fn as_set(
     manager: u32,
     path: &[Name],
 ) -> Result<AsSet, WantMemory>
-    ensures { (past : List Entry) → Tells config.now past settings.now
-        → IfOk result (λ set. IsAsSaid config.now past manager path.now set) }
+    ensures { SettingsTell config.now settings.now
+        (λ past. IfOk result (λ set. IsAsSaid config.now past manager path.now set)) }
 {
     let preset = match preset_of(config, settings, path) {
         Some(name) => Some(name.clone()?),
@@ -269,7 +268,8 @@ fn facts_at(
     path: &[Name],
     found: Found,
 ) -> Result<Facts, WantMemory>
-    ensures { (past : List Entry) → path.now ≡ key.now.path → Tells config.now past settings.now
+    ensures { (past : List Entry) → path.now ≡ key.now.path
+        → SettingsAgree config.now past settings.now
         → IfOk result (λ facts. facts ≡ situations.facts_met config.now run past (seen standing.now)
         asked.locate asked.crowded asked.key key.now found) }
 {
@@ -288,10 +288,10 @@ fn facts_about(
     asked: Asked,
     key: &KeyView<'_>,
 ) -> Result<Facts, WantMemory>
-    ensures { (past : List Entry) → Tells config.now past settings.now
-        → IfOk result (λ facts. facts ≡ situations.facts_met config.now run past (seen standing.now)
+    ensures { SettingsTell config.now settings.now (λ past. IfOk result (λ facts. facts
+        ≡ situations.facts_met config.now run past (seen standing.now)
         asked.locate asked.crowded asked.key key.now
-        (walk_along (seen standing.now).nodes key.now.path)) }
+        (walk_along (seen standing.now).nodes key.now.path))) }
 {
     let found = walk(&standing.nodes, key.path());
     match path_met(&standing.nodes, found, key.path()) {
@@ -323,10 +323,8 @@ pub fn facts_of(
     crowded: bool,
     call: &Call,
 ) -> Result<Facts, WantMemory>
-    ensures { (past : List Entry) (r : ℕ) → AnswersAs config.now run past (seen standing.now)
-        → Tells config.now past settings.now
-        → crowded ≡ situations.is_crowded past r → calls.call_of past r ≡ Some call.now
-        → IfOk result (λ facts. facts ≡ situations.facts_of config.now run past r) }
+    ensures { ArrivalTells config.now run (seen standing.now) settings.now crowded call.now
+        (λ past r. IfOk result (λ facts. facts ≡ situations.facts_of config.now run past r)) }
 {
     let key = key_in(Some(call));
     let asked = Asked {

@@ -5,17 +5,17 @@ ghost use Rattle.history_standing.specs.declared.stage.Stage.TheVariants.{Free};
 ghost use Rattle.history_standing.specs.Changes.{standing as stands_after};
 ghost use Rattle.history_standing.specs.Stages as begun;
 ghost use Rattle.poa_history.specs.Turns as turns;
-ghost use Rattle.core_arrivals.specs.Begun.{KnowsWorkers, only_ends};
+ghost use Rattle.core_arrivals.specs.Begun.{WorkersAgree, only_ends};
 ghost use Rattle.history_standing.specs.Arrivals.{arrivals};
 ghost use Rattle.history_standing.specs.Situations.{facts_of};
 ghost use Rattle.poa_history.specs.Verdicts.{verdict};
 ghost use Rattle.core_turns.specs.Looks.{looked};
-ghost use Rattle.held_queue.specs.Held.{AreHeld};
+ghost use Rattle.held_queue.specs.Held.{HeldAgrees};
 ghost use Rattle.poa_history.specs.Waiting.{is_waiting};
 ghost use Rattle.core_turns.specs.Answered.{IsAnswer};
 ghost use Rattle.core_arrivals.specs.Firsts.{IsFirst, earlier as the_earlier};
 ghost use Rattle.core_arrivals.specs.Queued.{is_waiting_line};
-ghost use Rattle.core_turns.specs.Told.{IsTold, history};
+ghost use Rattle.core_turns.specs.Told.{KnownAgrees, history};
 
 use crate::looks::{Look, look_at};
 use crate::turns::{going_on, removal};
@@ -80,7 +80,7 @@ impl<'a> Known<'a> {
         worker: u32,
         arrival: u64,
     ) -> Result<Option<Verdict>, WantMemory>
-        requires { IsTold self.now }
+        requires { KnownAgrees self.now }
         ensures { IfOk result
             (λ it. it ≡ verdict self.now.config.now self.now.run (history self.now) arrival
             worker) }
@@ -102,7 +102,7 @@ impl<'a> Known<'a> {
 
     /// The first line that waits and isn't held, with its verdict.
     fn first_line(&self, alloc: Global, worker: u32) -> Result<Option<(u64, Verdict)>, WantMemory>
-        requires { IsTold self.now }
+        requires { KnownAgrees self.now }
         ensures { IfOk result
             (λ found. IsFirst (is_waiting_line (history self.now))
             (λ r. verdict self.now.config.now self.now.run (history self.now) r worker)
@@ -119,7 +119,7 @@ impl<'a> Known<'a> {
 
     /// Looks at a request or a locate; none where it doesn't wait.
     fn look(&self, alloc: Global, worker: u32, arrival: u64) -> Result<Option<Look>, WantMemory>
-        requires { IsTold self.now }
+        requires { KnownAgrees self.now }
         ensures { IfOk result
             (λ look. look ≡
             (if is_waiting (history self.now) arrival then Some
@@ -147,9 +147,9 @@ impl<'a> Known<'a> {
 
     /// Asks the least of the requests and locates that are ready.
     fn ask(&self, alloc: Global, worker: u32, held: &mut HeldQueue) -> Result<Asked, WantMemory>
-        requires told { IsTold self.now }
-        requires held { AreHeld self.now.config.now self.now.run (history self.now) held.old }
-        ensures held { AreHeld self.now.config.now self.now.run (history self.now) held.new }
+        requires told { KnownAgrees self.now }
+        requires held { HeldAgrees self.now.config.now self.now.run (history self.now) held.old }
+        ensures held { HeldAgrees self.now.config.now self.now.run (history self.now) held.new }
         ensures asked { IfOk result (λ asked. IsAnswer self.now worker asked) }
     {
         held.settle(&self.standing.flights, worker)?;
@@ -171,9 +171,9 @@ impl<'a> Known<'a> {
         worker: u32,
         held: &mut HeldQueue,
     ) -> Result<Option<(u64, Verdict)>, WantMemory>
-        requires told { IsTold self.now }
-        requires held { AreHeld self.now.config.now self.now.run (history self.now) held.old }
-        ensures held { AreHeld self.now.config.now self.now.run (history self.now) held.new }
+        requires told { KnownAgrees self.now }
+        requires held { HeldAgrees self.now.config.now self.now.run (history self.now) held.old }
+        ensures held { HeldAgrees self.now.config.now self.now.run (history self.now) held.new }
         ensures first { IfOk result
             (λ found. IsFirst (is_waiting (history self.now))
             (λ r. verdict self.now.config.now self.now.run (history self.now) r worker)
@@ -196,9 +196,9 @@ impl<'a> Known<'a> {
         worker: u32,
         held: &mut HeldQueue,
     ) -> Result<Option<Entry>, WantMemory>
-        requires told { IsTold self.now }
-        requires held { AreHeld self.now.config.now self.now.run (history self.now) held.old }
-        ensures held { AreHeld self.now.config.now self.now.run (history self.now) held.new }
+        requires told { KnownAgrees self.now }
+        requires held { HeldAgrees self.now.config.now self.now.run (history self.now) held.old }
+        ensures held { HeldAgrees self.now.config.now self.now.run (history self.now) held.new }
         ensures admission { IfOk result
             (λ entry. entry ≡ turns.admission self.now.config.now self.now.run (history self.now)
             worker) }
@@ -217,7 +217,7 @@ impl<'a> Known<'a> {
 
     /// The removal that is due.
     fn removal(&self, worker: u32) -> Option<Entry>
-        requires { IsTold self.now }
+        requires { KnownAgrees self.now }
         ensures { result ≡ turns.removal self.now.config.now
             (stands_after self.now.config.now self.now.run (history self.now)) worker }
     {
@@ -231,9 +231,9 @@ impl<'a> Known<'a> {
         worker: u32,
         held: &mut HeldQueue,
     ) -> Result<Option<Entry>, WantMemory>
-        requires told { IsTold self.now }
-        requires held { AreHeld self.now.config.now self.now.run (history self.now) held.old }
-        ensures held { AreHeld self.now.config.now self.now.run (history self.now) held.new }
+        requires told { KnownAgrees self.now }
+        requires held { HeldAgrees self.now.config.now self.now.run (history self.now) held.old }
+        ensures held { HeldAgrees self.now.config.now self.now.run (history self.now) held.new }
         ensures next { IfOk result
             (λ entry. entry ≡ turns.next_of self.now.config.now self.now.run (history self.now)
             worker Free) }
@@ -246,7 +246,7 @@ impl<'a> Known<'a> {
 
     /// What a worker has begun goes on.
     fn going_on(&self, worker: u32, stage: Stage) -> Result<Option<Entry>, WantMemory>
-        requires told { IsTold self.now }
+        requires told { KnownAgrees self.now }
         requires begun { stage ≡ begun.stage (history self.now) worker }
         ensures next { IfOk result
             (λ entry. entry ≡ turns.going_on self.now.config.now
@@ -267,10 +267,10 @@ impl<'a> Known<'a> {
         held: &mut HeldQueue,
     ) -> Result<Option<Entry>, WantMemory>
         requires worker { worker < 16 }
-        requires begun { KnowsWorkers (history self.now) workers.now }
-        requires told { IsTold self.now }
-        requires held { AreHeld self.now.config.now self.now.run (history self.now) held.old }
-        ensures held { AreHeld self.now.config.now self.now.run (history self.now) held.new }
+        requires begun { WorkersAgree (history self.now) workers.now }
+        requires told { KnownAgrees self.now }
+        requires held { HeldAgrees self.now.config.now self.now.run (history self.now) held.old }
+        ensures held { HeldAgrees self.now.config.now self.now.run (history self.now) held.new }
         ensures next { IfOk result
             (λ entry. entry ≡ turns.turn self.now.config.now self.now.run (history self.now)
             worker) }

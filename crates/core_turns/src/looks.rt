@@ -1,15 +1,12 @@
 //! What a look at a request or a locate gives: its verdict, or what holds it.
-ghost use Rattle.std.specs.Prelude.{◌≡◌, ℕ, List, Option, Some, IfOk};
-ghost use Rattle.poa_base.specs.declared.Entry.{Entry};
+ghost use Rattle.std.specs.Prelude.{◌≡◌, Option, Some, IfOk};
 ghost use Rattle.poa_choose.specs.Table as table;
 ghost use Rattle.poa_choose.specs.declared.Facts.{Facts as FactsOf};
-ghost use Rattle.history_standing.specs.Arrivals.{call_of};
 ghost use Rattle.history_standing.specs.Situations as situations;
 ghost use Rattle.held_queue.specs.Blocks as blocks;
-ghost use Rattle.core_standing.specs.Answers.{AnswersAs};
 ghost use Rattle.core_standing.specs.Seen.{seen};
-ghost use Rattle.core_settings.specs.Told.{Tells};
 ghost use Rattle.core_turns.specs.Looks.{looked};
+ghost use Rattle.core_turns.specs.Told.{ArrivalTells};
 
 use crate::facts::facts_of;
 use core_settings::Settings;
@@ -67,10 +64,9 @@ pub fn look_at(
     call: &Call,
     worker: u32,
 ) -> Result<Look, WantMemory>
-    ensures { (past : List Entry) (r : ℕ) → AnswersAs config.now run past (seen standing.now)
-        → Tells config.now past settings.now
-        → crowded ≡ situations.is_crowded past r → call_of past r ≡ Some call.now
-        → IfOk result (λ look. look ≡ looked (situations.facts_of config.now run past r) worker) }
+    ensures { ArrivalTells config.now run (seen standing.now) settings.now crowded call.now
+        (λ past r. IfOk result
+        (λ look. look ≡ looked (situations.facts_of config.now run past r) worker)) }
 {
     let facts = facts_of(alloc, config, run, standing, settings, crowded, call)?;
     let turn = awaits_turn(&facts);

@@ -6,7 +6,7 @@ ghost use Rattle.history_standing.specs.Situations.{is_crowded};
 ghost use Rattle.poa_history.specs.Verdicts as verdicts;
 ghost use Rattle.core_standing.specs.Answers.{AnswersAs};
 ghost use Rattle.core_standing.specs.Seen.{seen};
-ghost use Rattle.core_settings.specs.Told.{Tells};
+ghost use Rattle.core_settings.specs.Told.{SettingsAgree};
 
 use crate::commands::command_verdict;
 use crate::facts::facts_of;
@@ -42,7 +42,7 @@ pub fn verdict_on(
     worker: u32,
 ) -> Result<Option<Verdict>, WantMemory>
     ensures { (past : List Entry) (r : ℕ) → AnswersAs config.now run past (seen standing.now)
-        → Tells config.now past settings.now
+        → SettingsAgree config.now past settings.now
         → (is_message (Some call.now) ≡ true → crowded ≡ is_crowded past r)
         → call_of past r ≡ Some call.now
         → IfOk result (λ verdict. verdict ≡ verdicts.verdict config.now run past r worker) }

@@ -21,7 +21,7 @@ use Rattle.held_queue.specs.declared.freed.Freed.{Freed}
 use Rattle.held_queue.specs.declared.hold.Hold.{Hold}
 use Rattle.held_queue.specs.declared.hold.Hold.TheVariants.{Manager, Trial, Turn as HeldTurn, Main, Id, Change}
 use Rattle.held_queue.proofs.Stays.{still_blocked, turn_stays}
-use Rattle.held_queue.specs.Held.{IsGripped, IsRow, KnowsCalls}
+use Rattle.held_queue.specs.Held.{IsGripped, IsRow, RowsAgree}
 use Rattle.held_queue.specs.Numbers.{Heap, has}
 use Rattle.held_queue.specs.Rows.{let_go, freed_grip, freed_row, in_rows}
 use Rattle.poa_history.specs.Waiting.{is_waiting, received}
@@ -119,7 +119,7 @@ module _ (c : Config) (run limit : ℕ) (past : List Entry) (e : Entry) (given :
 
   pub known_after : (ready ready' : Heap) (rows : List Row) → ((r : ℕ) → has ready r ≡ true → has ready' r ≡ true)
       → ((r : ℕ) → received past e ≡ Some r → has ready' r ≡ true)
-      → KnowsCalls c run past ready rows → KnowsCalls c run (e ∷ past) ready' (map (freed_row freed) rows)
+      → RowsAgree c run past ready rows → RowsAgree c run (e ∷ past) ready' (map (freed_row freed) rows)
   known_after ready ready' rows more comes known = record {
     covered = λ r less waits. elim (waited e past r less waits) [
       | inl was ↦ elim (or_cases (has ready r) (in_rows rows r) (known.covered r was.0 was.1)) [

@@ -14,7 +14,7 @@ use Rattle.history_standing.proofs.Members.{in_either}
 use Rattle.held_queue.specs.Blocks.{Blocks, TakesTurn}
 use Rattle.held_queue.specs.declared.hold.Hold.{Hold}
 use Rattle.held_queue.specs.declared.hold.Hold.TheVariants.{Turn as HeldTurn}
-use Rattle.held_queue.specs.Held.{IsGripped, IsRow, KnowsCalls, AreSettled}
+use Rattle.held_queue.specs.Held.{IsGripped, IsRow, RowsAgree, AreSettled}
 use Rattle.held_queue.specs.Numbers.{Heap, has, IsLeast}
 use Rattle.held_queue.specs.Rows.{in_rows, settled_grip, regripped, is_empty_row, GoesOver, IsSettledRow}
 use Rattle.poa_history.specs.Waiting.{is_waiting}
@@ -63,7 +63,7 @@ module _ (c : Config) (run : ℕ) (h : List Entry) where
   pub known_set : (ready ready' : Heap) (rows : List Row) (i : ℕ) (d y : Row) → i < length rows
       → ((r : ℕ) → has ready r ≡ true → (has ready' r ≡ true) ⊎ (has y.calls.heap r ≡ true))
       → ((r : ℕ) → has (slice_index_or rows i d).calls.heap r ≡ true → (has ready' r ≡ true) ⊎ (has y.calls.heap r ≡ true))
-      → IsRow c run h y → KnowsCalls c run h ready rows → KnowsCalls c run h ready' (slice_set rows i y)
+      → IsRow c run h y → RowsAgree c run h ready rows → RowsAgree c run h ready' (slice_set rows i y)
   known_set ready ready' rows i d y low from_ready from_row row known = record {
     covered = λ r less waits. elim (or_cases (has ready r) (in_rows rows r) (known.covered r less waits)) [
       | inl is ↦ either r (from_ready r is)
@@ -90,7 +90,7 @@ module _ (c : Config) (run : ℕ) (h : List Entry) where
   pub known_settled : (flights : List Flight) → flights ≡ (standing c run h).flights → (ready ready' : Heap) (rows : List Row) (i : ℕ) (d y : Row)
       → i < length rows
       → y.grip ≡ settled_grip flights (slice_index_or rows i d).grip → GoesOver (slice_index_or rows i d).calls.heap y.calls.heap ready ready'
-      → KnowsCalls c run h ready rows → KnowsCalls c run h ready' (slice_set rows i y)
+      → RowsAgree c run h ready rows → RowsAgree c run h ready' (slice_set rows i y)
   known_settled flights same ready ready' rows i d y low grip goes known =
       known_set ready ready' rows i d y low (λ r is. inl (goes.more r is)) (λ r is. elim (goes.all r is) [ inl stays ↦ inr stays | inr went ↦ inl went ])
       (λ r is. (let was = known.held (slice_index_or rows i d) (got_in rows i d low) r (goes.fewer r is) in (
@@ -104,7 +104,7 @@ module _ (c : Config) (run : ℕ) (h : List Entry) where
       → y.grip ≡ (slice_index_or rows i d).grip → (slice_index_or rows i d).grip ≡ Held hold
       → GoesOver ready ready' (slice_index_or rows i d).calls.heap y.calls.heap → IsLeast ready arrival → arrival < arrivals h
       → Blocks (facts_of c run h arrival) hold
-      → KnowsCalls c run h ready rows → KnowsCalls c run h ready' (slice_set rows i y)
+      → RowsAgree c run h ready rows → RowsAgree c run h ready' (slice_set rows i y)
   known_put ready ready' rows i d y arrival hold low grip held goes least less blocks known =
       known_set ready ready' rows i d y low goes.all (λ r is. inr (goes.more r is))
       (λ r is. subst (λ g. (r < arrivals h) × IsGripped c run h r g) (sym grip) (elim (goes.comes r is) [
@@ -132,7 +132,7 @@ module _ (c : Config) (run : ℕ) (h : List Entry) where
   empty_row row none r is = absurd (true≢false (sym is ∙ none r))
 
   pub known_regripped : (ready : Heap) (rows : List Row) (i : ℕ) (grip : Grip) → ((d : Row) → is_empty_row (slice_index_or rows i d))
-      → KnowsCalls c run h ready rows → KnowsCalls c run h ready (regripped i grip rows)
+      → RowsAgree c run h ready rows → RowsAgree c run h ready (regripped i grip rows)
   known_regripped ready rows i grip none known = record {
     covered = λ r less waits. ap (λ b. has ready r || b) (regripped_rows rows i grip r) ∙ known.covered r less waits;
     held = λ row is. elim (in_regripped rows i grip row none is) [ inl was ↦ known.held row was | inr empty ↦ empty_row row empty ];
@@ -146,8 +146,8 @@ module _ (c : Config) (run : ℕ) (h : List Entry) where
         | inr more ↦ or_right (has x.calls.heap r) (in_rows (rows ++ row ∷ []) r) (rows_added rows row r more)
       ]
 
-  pub known_added : (ready : Heap) (rows : List Row) (row : Row) → is_empty_row row → KnowsCalls c run h ready rows
-      → KnowsCalls c run h ready (rows ++ row ∷ [])
+  pub known_added : (ready : Heap) (rows : List Row) (row : Row) → is_empty_row row → RowsAgree c run h ready rows
+      → RowsAgree c run h ready (rows ++ row ∷ [])
   known_added ready rows row none known = record {
     covered = λ r less waits. elim (or_cases (has ready r) (in_rows rows r) (known.covered r less waits)) [
       | inl is ↦ or_left (has ready r) (in_rows (rows ++ row ∷ []) r) is

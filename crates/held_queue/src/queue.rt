@@ -1,17 +1,10 @@
 //! The requests and locates that wait.
-ghost use Rattle.std.specs.Prelude.{◌≡◌, ◌∷◌, ◌<◌, ◌≤◌, [], ℕ, true, false, List, map, IfSome, IfNone, OnOk};
+ghost use Rattle.std.specs.Prelude.{◌≡◌, ◌<◌, ◌≤◌, [], ℕ, true, false, List, map, IfSome, IfNone, OnOk};
 ghost use Rattle.poa_base.specs.declared.Config.{Config};
 ghost use Rattle.poa_base.specs.declared.Entry.{Entry as EntryOf};
-ghost use Rattle.poa_history.specs.Alone.{IsGivenAlone};
 ghost use Rattle.history_standing.specs.Arrivals.{arrivals as arrivals_in};
-ghost use Rattle.poa_history.specs.Bounds.{IsWithinLimits};
 ghost use Rattle.history_standing.specs.Changes.{standing};
-ghost use Rattle.poa_history.specs.Legal.{IsLegal};
-ghost use Rattle.history_standing.specs.Situations.{facts_of};
-ghost use Rattle.poa_history.specs.Sound.{IsGiven};
-ghost use Rattle.held_queue.specs.Blocks.{Blocks};
-ghost use Rattle.held_queue.specs.Frees.{freed_by};
-ghost use Rattle.held_queue.specs.Held.{AreHeld, IsSettled};
+ghost use Rattle.held_queue.specs.Held.{HeldAgrees, IsSettled, HeldStays, HeldStaysWhere, HeldPuts, HeldFollows};
 ghost use Rattle.held_queue.specs.Numbers.{has, HasRoom};
 ghost use Rattle.held_queue.specs.Rows.{freed_row};
 ghost use Rattle.poa_history.specs.Waiting.{is_waiting, may_queue, received as the_received};
@@ -61,7 +54,7 @@ fn received(entry: &Entry, arrivals: u64, stage: Stage) -> Option<u64>
 impl HeldQueue {
     /// The queue before the first arrival.
     pub fn empty(alloc: Global) -> HeldQueue
-        ensures { (c : Config) (run : ℕ) → AreHeld c run [] result }
+        ensures { (c : Config) (run : ℕ) → HeldAgrees c run [] result }
     {
         HeldQueue {
             ready: Numbers::new(alloc),
@@ -71,8 +64,7 @@ impl HeldQueue {
 
     /// Makes room for one call more.
     pub fn reserve(&mut self) -> Result<(), WantMemory>
-        ensures kept { (c : Config) (run : ℕ) (h : List EntryOf) → AreHeld c run h self.old
-            → AreHeld c run h self.new }
+        ensures kept { HeldStays self.old self.new }
         ensures room { OnOk result (HasRoom self.new.ready.heap) }
     {
         self.ready.reserve()
@@ -81,9 +73,8 @@ impl HeldQueue {
     /// Makes those ready that a worker is to ask next: of each row that was freed the first call, and of the requests
     /// that take their turn in an adapter the first one, where nobody has the turn.
     pub fn settle(&mut self, flights: &[Flight], worker: u32) -> Result<(), WantMemory>
-        ensures kept { (c : Config) (run : ℕ) (h : List EntryOf)
-            → flights.now ≡ (standing c run h).flights → AreHeld c run h self.old
-            → AreHeld c run h self.new }
+        ensures kept { HeldStaysWhere (λ c run h. flights.now ≡ (standing c run h).flights)
+            self.old self.new }
         ensures settled { OnOk result (IsSettled worker self.new) }
     {
         rows::settle(&mut self.rows, &mut self.ready, flights, worker)
@@ -102,9 +93,7 @@ impl HeldQueue {
     pub fn put(&mut self, alloc: Global, arrival: u64, hold: Hold) -> Result<(), WantMemory>
         requires there { has self.old.ready.heap arrival ≡ true }
         requires least { (r : ℕ) → has self.old.ready.heap r ≡ true → arrival ≤ r }
-        ensures { (c : Config) (run : ℕ) (h : List EntryOf) → arrival < arrivals_in h
-            → Blocks (facts_of c run h arrival) hold
-            → AreHeld c run h self.old → AreHeld c run h self.new }
+        ensures { HeldPuts arrival hold self.old self.new }
     {
         rows::put(alloc, hold, &mut self.rows, &mut self.ready)
     }
@@ -113,9 +102,7 @@ impl HeldQueue {
     pub fn drop_least(&mut self, arrival: u64)
         requires there { has self.old.ready.heap arrival ≡ true }
         requires least { (r : ℕ) → has self.old.ready.heap r ≡ true → arrival ≤ r }
-        ensures { (c : Config) (run : ℕ) (h : List EntryOf) → is_waiting h arrival ≡ false
-            → AreHeld c run h self.old
-            → AreHeld c run h self.new }
+        ensures { HeldStaysWhere (λ c run h. is_waiting h arrival ≡ false) self.old self.new }
     {
         let _ = self.ready.pop();
     }
@@ -124,12 +111,7 @@ impl HeldQueue {
     /// and what the entry frees. Takes no memory.
     pub fn advance(&mut self, entry: &Entry, arrivals: u64, stage: Stage, freed: Freed)
         requires { may_queue entry.now ≡ true → HasRoom self.old.ready.heap }
-        ensures held { (c : Config) (run limit : ℕ) (past : List EntryOf) → IsGiven c run
-            → IsGivenAlone c run → IsWithinLimits c limit
-            → IsLegal c run limit (entry.now ∷ past)
-            → arrivals ≡ arrivals_in past → stage ≡ stage_at past entry.now
-            → freed ≡ freed_by c run past entry.now
-            → AreHeld c run past self.old → AreHeld c run (entry.now ∷ past) self.new }
+        ensures held { HeldFollows entry.now arrivals stage freed self.old self.new }
         ensures rows { self.new.rows.items ≡ map (freed_row freed) self.old.rows.items }
     {
         rows::free(&mut self.rows, freed);

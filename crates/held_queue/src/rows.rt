@@ -7,7 +7,7 @@ ghost use Rattle.history_standing.specs.Changes.{standing};
 ghost use Rattle.history_standing.specs.Situations.{facts_of};
 ghost use Rattle.held_queue.specs.Blocks.{Blocks};
 ghost use Rattle.held_queue.specs.Frees.{frees};
-ghost use Rattle.held_queue.specs.Held.{KnowsCalls, AreSettled};
+ghost use Rattle.held_queue.specs.Held.{RowsAgree, AreSettled};
 ghost use Rattle.held_queue.specs.Numbers.{Heap, has, IsLeast};
 ghost use Rattle.held_queue.specs.Rows.{IsSettledRow, GoesOver, freed_grip, freed_row, settled_grip, is_asked as the_is_asked, is_empty_row, regripped};
 ghost use Rattle.held_queue.specs.declared.grip.Grip.TheVariants as grips;
@@ -106,8 +106,8 @@ pub fn settle(
 ) -> Result<(), WantMemory>
     ensures kept { (c : Config) (run : ℕ) (h : List EntryOf)
         → flights.now ≡ (standing c run h).flights
-        → KnowsCalls c run h ready.old.heap rows.old.items
-        → KnowsCalls c run h ready.new.heap rows.new.items }
+        → RowsAgree c run h ready.old.heap rows.old.items
+        → RowsAgree c run h ready.new.heap rows.new.items }
     ensures settled { OnOk result (AreSettled worker ready.new.heap rows.new.items) }
 {
     for i in 0..rows.len() {
@@ -149,8 +149,8 @@ fn place_for(alloc: Global, hold: Hold, rows: &mut Vec<Row>) -> Result<usize, Wa
         (λ i. (i < length rows.new.items)
         × ((d : Row) → (slice_index_or rows.new.items i d).grip ≡ grips.Held hold)) }
     ensures kept { (c : Config) (run : ℕ) (h : List EntryOf) (ready : Heap)
-        → KnowsCalls c run h ready rows.old.items
-        → KnowsCalls c run h ready rows.new.items }
+        → RowsAgree c run h ready rows.old.items
+        → RowsAgree c run h ready rows.new.items }
 {
     if let Some(place) = place_of(rows, Grip::Held(hold)) {
         return Ok(place);
@@ -177,8 +177,8 @@ pub fn put(
     ensures { (c : Config) (run : ℕ) (h : List EntryOf) (arrival : ℕ)
         → IsLeast ready.old.heap arrival → arrival < arrivals_in h
         → Blocks (facts_of c run h arrival) hold
-        → KnowsCalls c run h ready.old.heap rows.old.items
-        → KnowsCalls c run h ready.new.heap rows.new.items }
+        → RowsAgree c run h ready.old.heap rows.old.items
+        → RowsAgree c run h ready.new.heap rows.new.items }
 {
     let place = place_for(alloc, hold, rows)?;
     match rows.get_mut(place) {

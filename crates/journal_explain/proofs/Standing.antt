@@ -14,33 +14,33 @@ use Rattle.journal_explain.specs.declared.wait.Wait.{Wait}
 use Rattle.journal_explain.specs.Stories.{wait_by, wait_of}
 use Rattle.poa_history.specs.Life.{Life, opened}
 use Rattle.poa_history.specs.Runs.{IsRun}
-use Rattle.core_arrivals.specs.Placed.{KnowsCalls}
-use Rattle.core_run.specs.Known.{KnowsTables}
+use Rattle.core_arrivals.specs.Placed.{CallsAgree}
+use Rattle.core_run.specs.Known.{TablesAgree}
 use Rattle.core_run.specs.declared.Tables.{Tables}
 use Rattle.core_state.proofs.Stated.{answers_state}
-use Rattle.core_state.specs.State.{IsState}
+use Rattle.core_state.specs.State.{StateAgrees}
 use Rattle.core_state.specs.declared.State.{State}
 use Rattle.core_standing.specs.Answers.{AnswersAs}
 use Rattle.core_standing.specs.Seen.{seen}
-use Rattle.core_settings.specs.Told.{Tells}
+use Rattle.core_settings.specs.Told.{SettingsAgree}
 
 -- what stands answers as the history, and what is set is what it says, for the configuration and the run number that are lent
 module _ (life : Life) (s : State) (config : Config) (run : ℕ) (config_is : config ≡ life.config) (run_is : run ≡ life.run)
-    (is : IsState life.config life.run (opened life) life.history s) where
+    (is : StateAgrees life.config life.run (opened life) life.history s) where
   pub stands_as : IsRun life.config life.run life.limit life.history → AnswersAs config run life.history (seen s.standing)
   stands_as runs =
       subst (λ (c : Config). AnswersAs c run life.history (seen s.standing)) (sym config_is)
       (subst (λ (n : ℕ). AnswersAs life.config n life.history (seen s.standing)) (sym run_is)
       (answers_state life.config life.run life.limit (opened life) life.history s runs is))
 
-  pub set_as : Tells config life.history s.settings
-  set_as = subst (λ (c : Config). Tells c life.history s.settings) (sym config_is) is.set
+  pub set_as : SettingsAgree config life.history s.settings
+  set_as = subst (λ (c : Config). SettingsAgree c life.history s.settings) (sym config_is) is.set
 
 -- where the calls arrived, by the entries
 pub called : (life : Life) (entries : List Entry) (t : Tables) → entries ≡ reverse life.history
-    → KnowsTables life.config life.run life.history t → KnowsCalls (reverse entries) t.calls.places.items
+    → TablesAgree life.config life.run life.history t → CallsAgree (reverse entries) t.calls.places.items
 called life entries t are knows =
-    subst (λ (h : List Entry). KnowsCalls h t.calls.places.items) (sym (ap reverse are ∙ reverse-reverse life.history)) knows.calls
+    subst (λ (h : List Entry). CallsAgree h t.calls.places.items) (sym (ap reverse are ∙ reverse-reverse life.history)) knows.calls
 
 pub call_is : (life : Life) (entries : List Entry) (r : ℕ) (call : Option Call) → entries ≡ reverse life.history
     → call ≡ call_of (reverse entries) r → call ≡ call_of life.history r

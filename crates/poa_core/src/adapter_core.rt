@@ -11,8 +11,8 @@ ghost use Rattle.poa_history.specs.Lifetime.{HasLifetime};
 ghost use Rattle.history_standing.specs.Nodes.{node_at};
 ghost use Rattle.poa_base.specs.declared.Entry.TheVariants.{Left};
 ghost use Rattle.poa_history.specs.Life.{begun, opened, with_entry};
-ghost use Rattle.core_run.specs.Agrees.{AreOwed, IsState};
-ghost use Rattle.core_run.specs.Known.{KnowsTables};
+ghost use Rattle.core_run.specs.Agrees.{AreOwed, StateAgrees};
+ghost use Rattle.core_run.specs.Known.{TablesAgree};
 ghost use Rattle.core_run.specs.Agreeing.{CountsAgree, QueuesAgree, RemovalsAgree};
 ghost use Rattle.poa_core.specs.Answers as answers;
 ghost use Rattle.poa_core.specs.Fits.{FitsItsCall};
@@ -199,7 +199,7 @@ impl Core {
     pub fn state(&self) -> &State
         ensures counts { CountsAgree self.now result.now }
         ensures removals { RemovalsAgree self.now result.now }
-        ensures state { IsState self.now.config self.now.run (opened self.now) self.now.history
+        ensures state { StateAgrees self.now.config self.now.run (opened self.now) self.now.history
             result.now }
     {
         self.run.state()
@@ -210,7 +210,7 @@ impl Core {
     /// those that the same holds.
     pub fn tables(&self) -> &Tables
         ensures queues { QueuesAgree self.now result.now }
-        ensures tables { KnowsTables self.now.config self.now.run self.now.history result.now }
+        ensures tables { TablesAgree self.now.config self.now.run self.now.history result.now }
     {
         self.run.tables()
     }

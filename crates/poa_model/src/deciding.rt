@@ -6,9 +6,9 @@ ghost use Rattle.history_standing.specs.Stages as begun;
 
 use crate::settling::settles;
 use core_outboxes::may_decide;
-use poa_base::{Attempt, Config, Entry, Verdict, WantMemory};
+use poa_base::{Attempt, Entry, Verdict, WantMemory};
+use poa_history::Run;
 use poa_history::workers::{admitted, arrival_in, brings, is_at, stage};
-use std::alloc::Global;
 
 /// Whether the arrival is the one that the worker is at.
 pub fn is_at_work(past: &[Entry], worker: u32, arrival: u64) -> bool
@@ -46,36 +46,25 @@ fn is_waiting(verdict: Option<&Verdict>) -> bool
 }
 
 /// Whether the arrival is a command that waits, whose condition holds after the history.
-fn is_settled(
-    alloc: Global,
-    config: &Config,
-    run: u32,
-    history: &[Entry],
-    arrival: u64,
-) -> Result<bool, WantMemory>
+fn is_settled(run: &Run<'_>, history: &[Entry], arrival: u64) -> Result<bool, WantMemory>
     ensures { IfOk result
         (λ settled. settled ≡
         (replies.is_waiting (begun.admitted (reverse history.now) arrival)
-        && settling.settles config.now run
+        && settling.settles run.now.config.now run.now.number
         (reverse history.now) arrival)) }
 {
     if is_waiting(admitted(history, arrival)) {
-        settles(alloc, config, run, history, arrival)
+        settles(run, history, arrival)
     } else {
         Ok(false)
     }
 }
 
 /// Whether an entry has decided the arrival.
-pub fn decided(
-    alloc: Global,
-    config: &Config,
-    run: u32,
-    history: &[Entry],
-    arrival: u64,
-) -> Result<bool, WantMemory>
+pub fn decided(run: &Run<'_>, history: &[Entry], arrival: u64) -> Result<bool, WantMemory>
     ensures { IfOk result
-        (λ decided. decided ≡ replies.decided config.now run (reverse history.now) arrival) }
+        (λ decided. decided ≡ replies.decided run.now.config.now run.now.number
+        (reverse history.now) arrival) }
 {
     let mut decided = false;
     for (i, entry) in history.iter().enumerate() {
@@ -83,7 +72,7 @@ pub fn decided(
             decided = true;
         }
         if !decided {
-            decided = is_settled(alloc, config, run, &history[..i + 1], arrival)?;
+            decided = is_settled(run, &history[..i + 1], arrival)?;
         }
     }
     Ok(decided)

@@ -16,6 +16,7 @@ use core_standing::{Standing, standing_of};
 use core_state::{kind_brought, restored};
 use history_standing::{Activation, Phase, Stage};
 use poa_base::{Call, Config, Entry, Incarnation, Sid, State, Store, WantMemory};
+use poa_history::Run;
 use poa_history::workers::stage;
 use std::alloc::Global;
 
@@ -135,9 +136,7 @@ fn leave_fresh(
 
 /// What an entry leaves, after the entries before it.
 fn keep(
-    alloc: Global,
-    config: &Config,
-    run: u32,
+    run: &Run<'_>,
     store: &Store,
     past: &[Entry],
     entry: &Entry,
@@ -145,49 +144,45 @@ fn keep(
 ) -> Result<(), WantMemory>
     ensures { OnOk result
         (keeps.seen kept.new
-        ≡ keeps.with_entry config.now run (stored_at_opening store.now) (reverse past.now) entry.now
+        ≡ keeps.with_entry run.now.config.now run.now.number (stored_at_opening store.now)
+        (reverse past.now) entry.now
         (keeps.seen kept.old)) }
 {
     match entry {
         Entry::Run { worker } => {
             let stage = stage(past, *worker);
-            let servant = servant_run(alloc, config, run, past, stage)?;
-            run_servant(alloc, config, servant, call_run(past, stage), kept)
+            let servant = servant_run(run, past, stage)?;
+            run_servant(run.alloc, run.config, servant, call_run(past, stage), kept)
         }
         Entry::Incarnated {
             answer: Incarnation::Fresh(number),
             ..
         } => {
-            let standing = standing_of(alloc, config, run, past)?;
+            let standing = standing_of(run.alloc, run.config, run.number, past)?;
             let activation = activation_numbered(&standing, *number);
-            open_fresh(alloc, config, store, *number, activation, kept)
+            open_fresh(run.alloc, run.config, store, *number, activation, kept)
         }
         Entry::Etherealized { worker, .. } => {
-            let standing = standing_of(alloc, config, run, past)?;
-            leave_fresh(config, removed(&standing, stage(past, *worker)), kept)
+            let standing = standing_of(run.alloc, run.config, run.number, past)?;
+            leave_fresh(run.config, removed(&standing, stage(past, *worker)), kept)
         }
         _ => Ok(()),
     }
 }
 
 /// What the entries of a history left.
-pub fn kept_of(
-    alloc: Global,
-    config: &Config,
-    run: u32,
-    store: &Store,
-    history: &[Entry],
-) -> Result<Kept, WantMemory>
+pub fn kept_of(run: &Run<'_>, store: &Store, history: &[Entry]) -> Result<Kept, WantMemory>
     ensures { IfOk result
         (λ kept. keeps.seen kept
-        ≡ keeps.kept config.now run (stored_at_opening store.now) (reverse history.now)) }
+        ≡ keeps.kept run.now.config.now run.now.number (stored_at_opening store.now)
+        (reverse history.now)) }
 {
     let mut kept = Kept {
-        servants: Vec::new(alloc),
-        places: Vec::new(alloc),
+        servants: Vec::new(run.alloc),
+        places: Vec::new(run.alloc),
     };
     for (i, entry) in history.iter().enumerate() {
-        keep(alloc, config, run, store, &history[..i], entry, &mut kept)?;
+        keep(run, store, &history[..i], entry, &mut kept)?;
     }
     Ok(kept)
 }

@@ -12,11 +12,11 @@ use crate::next_reply::slow_next_reply;
 use crate::turns::slow_next;
 use core_arrivals::is_shutdown;
 use poa_base::limits::CONNECTIONS;
-use poa_base::{Call, Config, Entry, Store, WantMemory};
+use poa_base::{Call, Entry, WantMemory};
+use poa_history::Run;
 use poa_history::calls::{arrivals, connections};
 use poa_history::same::same_step;
 use poa_history::workers::is_abandoned;
-use std::alloc::Global;
 
 /// How many workers a run has.
 const WORKERS: u32 = 16;
@@ -96,19 +96,13 @@ fn may_fill(limit: u64, past: &[Entry], conn: u32, size: u64) -> bool
 }
 
 /// Whether the reply to that arrival is the one that the connection is given next.
-fn may_collect(
-    alloc: Global,
-    config: &Config,
-    run: u32,
-    past: &[Entry],
-    conn: u32,
-    arrival: u64,
-) -> Result<bool, WantMemory>
+fn may_collect(run: &Run<'_>, past: &[Entry], conn: u32, arrival: u64) -> Result<bool, WantMemory>
     ensures { IfOk result
-        (λ may. IsTrue may ↔ (replies.next_reply config.now run (reverse past.now) conn
+        (λ may. IsTrue may ↔ (replies.next_reply run.now.config.now run.now.number
+        (reverse past.now) conn
         ≡ Some arrival)) }
 {
-    match slow_next_reply(alloc, config, run, past, conn)? {
+    match slow_next_reply(run, past, conn)? {
         Some(next) => Ok(next == arrival),
         None => Ok(false),
     }
@@ -134,57 +128,44 @@ fn is_that(next: Option<&Entry>, entry: &Entry) -> bool
 }
 
 /// Whether an entry is the next turn of its worker.
-fn is_turn(
-    alloc: Global,
-    config: &Config,
-    run: u32,
-    store: &Store,
-    past: &[Entry],
-    worker: u32,
-    entry: &Entry,
-) -> Result<bool, WantMemory>
+fn is_turn(run: &Run<'_>, past: &[Entry], worker: u32, entry: &Entry) -> Result<bool, WantMemory>
     requires { is_of_worker entry.now ≡ true }
     ensures { IfOk result
-        (λ is. IsTrue is ↔ legal.IsTurn config.now run (reverse past.now) worker entry.now) }
+        (λ is. IsTrue is ↔ legal.IsTurn run.now.config.now run.now.number
+        (reverse past.now) worker entry.now) }
 {
     if !is_at_work(past, worker) {
         return Ok(false);
     }
-    let next = slow_next(alloc, config, run, store, past, worker)?;
+    let next = slow_next(run, past, worker)?;
     Ok(is_that(next.as_ref(), entry))
 }
 
 /// Whether an entry may follow the ones before it, which stand oldest first, in a run of this number that
 /// takes so many calls. `WantMemory`: no memory was left to compute it.
 pub fn may_follow(
-    alloc: Global,
-    config: &Config,
-    run: u32,
+    run: &Run<'_>,
     limit: u64,
-    store: &Store,
     past: &[Entry],
     entry: &Entry,
 ) -> Result<bool, WantMemory>
     ensures { IfOk result
-        (λ may. IsTrue may ↔ legal.MayFollow config.now run limit (reverse past.now) entry.now) }
+        (λ may. IsTrue may ↔ legal.MayFollow run.now.config.now run.now.number limit
+        (reverse past.now) entry.now) }
 {
     match entry {
         Entry::Entered { conn } => Ok(may_enter(past, *conn)),
         Entry::Arrive { conn, size, call } => Ok(may_arrive(limit, past, *conn, *size, call)),
         Entry::Filled { conn, size } => Ok(may_fill(limit, past, *conn, *size)),
         Entry::Left { conn } => Ok(is_open(past, *conn)),
-        Entry::Collect { conn, arrival } => {
-            may_collect(alloc, config, run, past, *conn, *arrival)
-        }
+        Entry::Collect { conn, arrival } => { may_collect(run, past, *conn, *arrival) }
         Entry::Admit { worker, .. }
         | Entry::Tried { worker, .. }
         | Entry::Incarnated { worker, .. }
         | Entry::Run { worker }
         | Entry::Done { worker }
         | Entry::TakeOut { worker, .. }
-        | Entry::Etherealized { worker, .. } => {
-            is_turn(alloc, config, run, store, past, *worker, entry)
-        }
+        | Entry::Etherealized { worker, .. } => { is_turn(run, past, *worker, entry) }
         Entry::Abandon { worker } => Ok(is_at_work(past, *worker)),
     }
 }

@@ -32,6 +32,7 @@ pub use kept::{Kept, stored_in};
 pub use legal::first_illegal;
 pub use next_reply::slow_next_reply;
 pub use owing::slow_owed;
+pub use poa_history::Run;
 pub use reply::slow_reply;
 pub use servant_state::ServantState;
 pub use settling::settles;

@@ -6,9 +6,9 @@ ghost use Rattle.history_standing.specs.Searches.{least};
 
 use crate::deciding::decided;
 use crate::owing::is_asked;
-use poa_base::{Config, Entry, WantMemory};
+use poa_base::{Entry, WantMemory};
+use poa_history::Run;
 use poa_history::calls::arrivals;
-use std::alloc::Global;
 
 /// Whether the reply to an arrival was collected.
 fn is_collected(history: &[Entry], arrival: u64) -> bool
@@ -27,9 +27,7 @@ fn is_collected(history: &[Entry], arrival: u64) -> bool
 
 /// Whether the arrival asks a reply, isn't collected, and was decided by the entry at a place.
 fn is_newly_decided(
-    alloc: Global,
-    config: &Config,
-    run: u32,
+    run: &Run<'_>,
     history: &[Entry],
     conn: u32,
     place: usize,
@@ -39,23 +37,23 @@ fn is_newly_decided(
     ensures { IfOk result
         (λ newly. newly ≡ (replies.is_asked (reverse history.now) conn arrival
         && (not (replies.is_collected (reverse history.now) arrival)
-        && (replies.decided config.now run (reverse (take (place + 1) history.now)) arrival && not
-        (replies.decided config.now run (reverse (take place history.now)) arrival))))) }
+        && (replies.decided run.now.config.now run.now.number
+        (reverse (take (place + 1) history.now)) arrival && not
+        (replies.decided run.now.config.now run.now.number
+        (reverse (take place history.now)) arrival))))) }
 {
     if !is_asked(history, conn, arrival) || is_collected(history, arrival) {
         return Ok(false);
     }
-    if !decided(alloc, config, run, &history[..place + 1], arrival)? {
+    if !decided(run, &history[..place + 1], arrival)? {
         return Ok(false);
     }
-    Ok(!decided(alloc, config, run, &history[..place], arrival)?)
+    Ok(!decided(run, &history[..place], arrival)?)
 }
 
 /// The least arrival that the entry at a place decided, asks a reply and isn't collected.
 fn first_decided(
-    alloc: Global,
-    config: &Config,
-    run: u32,
+    run: &Run<'_>,
     history: &[Entry],
     conn: u32,
     place: usize,
@@ -65,13 +63,14 @@ fn first_decided(
         (λ found. found ≡ least
         (λ r. replies.is_asked (reverse history.now) conn r
         && (not (replies.is_collected (reverse history.now) r)
-        && (replies.decided config.now run (reverse (take (place + 1) history.now)) r && not
-        (replies.decided config.now run (reverse (take place history.now)) r))))
+        && (replies.decided run.now.config.now run.now.number
+        (reverse (take (place + 1) history.now)) r && not
+        (replies.decided run.now.config.now run.now.number (reverse (take place history.now)) r))))
         (arrivals_in (reverse (take place history.now)))) }
 {
     let mut found = None;
     for arrival in 0..arrivals(&history[..place]) {
-        if found.is_none() && is_newly_decided(alloc, config, run, history, conn, place, arrival)? {
+        if found.is_none() && is_newly_decided(run, history, conn, place, arrival)? {
             found = Some(arrival);
         }
     }
@@ -80,9 +79,7 @@ fn first_decided(
 
 /// What was found, else the least arrival that the entry at a place decided.
 fn or_decided(
-    alloc: Global,
-    config: &Config,
-    run: u32,
+    run: &Run<'_>,
     history: &[Entry],
     conn: u32,
     place: usize,
@@ -90,33 +87,33 @@ fn or_decided(
 ) -> Result<Option<u64>, WantMemory>
     requires place { place < length history.now }
     requires found { found
-        ≡ replies.next_within config.now run (reverse history.now) conn
+        ≡ replies.next_within run.now.config.now run.now.number (reverse history.now) conn
         (reverse (take place history.now)) }
     ensures { IfOk result
-        (λ next. next ≡ replies.next_within config.now run (reverse history.now) conn
+        (λ next. next ≡ replies.next_within run.now.config.now run.now.number
+        (reverse history.now) conn
         (reverse (take (place + 1) history.now))) }
 {
     match found {
         Some(arrival) => Ok(Some(arrival)),
-        None => first_decided(alloc, config, run, history, conn, place),
+        None => first_decided(run, history, conn, place),
     }
 }
 
 /// The arrival whose reply a connection is given next after a history that stands oldest first; none
 /// where it is given none.
 pub fn slow_next_reply(
-    alloc: Global,
-    config: &Config,
-    run: u32,
+    run: &Run<'_>,
     history: &[Entry],
     conn: u32,
 ) -> Result<Option<u64>, WantMemory>
     ensures { IfOk result
-        (λ next. next ≡ replies.next_reply config.now run (reverse history.now) conn) }
+        (λ next. next ≡ replies.next_reply run.now.config.now run.now.number
+        (reverse history.now) conn) }
 {
     let mut found = None;
     for i in 0..history.len() {
-        found = or_decided(alloc, config, run, history, conn, i, found)?;
+        found = or_decided(run, history, conn, i, found)?;
     }
     Ok(found)
 }

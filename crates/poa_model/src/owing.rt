@@ -5,9 +5,9 @@ ghost use Rattle.history_standing.specs.Stages as begun;
 
 use crate::deciding::decided;
 use core_outboxes::asks;
-use poa_base::{Config, Entry, WantMemory};
+use poa_base::{Entry, WantMemory};
+use poa_history::Run;
 use poa_history::calls::{arrivals, call_of, conn_of};
-use std::alloc::Global;
 
 /// Whether a connection is that one.
 fn is_of(conn: u32, of: Option<u32>) -> bool
@@ -30,21 +30,14 @@ pub fn is_asked(history: &[Entry], conn: u32, arrival: u64) -> bool
 }
 
 /// Whether an arrival is of the connection, asks a reply and isn't decided.
-fn is_owed(
-    alloc: Global,
-    config: &Config,
-    run: u32,
-    history: &[Entry],
-    conn: u32,
-    arrival: u64,
-) -> Result<bool, WantMemory>
+fn is_owed(run: &Run<'_>, history: &[Entry], conn: u32, arrival: u64) -> Result<bool, WantMemory>
     ensures { IfOk result
         (λ owed. owed ≡
         (replies.is_asked (reverse history.now) conn arrival
-        && not (replies.decided config.now run (reverse history.now) arrival))) }
+        && not (replies.decided run.now.config.now run.now.number (reverse history.now) arrival))) }
 {
     if is_asked(history, conn, arrival) {
-        Ok(!decided(alloc, config, run, history, arrival)?)
+        Ok(!decided(run, history, arrival)?)
     } else {
         Ok(false)
     }
@@ -52,18 +45,13 @@ fn is_owed(
 
 /// How many replies a connection is owed after a history that stands oldest first: its arrivals that ask
 /// one and aren't decided.
-pub fn slow_owed(
-    alloc: Global,
-    config: &Config,
-    run: u32,
-    history: &[Entry],
-    conn: u32,
-) -> Result<u64, WantMemory>
-    ensures { IfOk result (λ owed. owed ≡ replies.owed config.now run (reverse history.now) conn) }
+pub fn slow_owed(run: &Run<'_>, history: &[Entry], conn: u32) -> Result<u64, WantMemory>
+    ensures { IfOk result (λ owed. owed ≡ replies.owed run.now.config.now run.now.number
+        (reverse history.now) conn) }
 {
     let mut owed = 0;
     for arrival in 0..arrivals(history) {
-        if is_owed(alloc, config, run, history, conn, arrival)? {
+        if is_owed(run, history, conn, arrival)? {
             owed += 1;
         }
     }

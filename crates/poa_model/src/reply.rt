@@ -13,6 +13,7 @@ use crate::servants::{call_run, servant_run};
 use crate::set::settings_of;
 use core_outboxes::{good, reply_admitted, reply_incarnated, reply_tried};
 use poa_base::{Attempt, Call, Config, Entry, Reply, Sid, Store, WantMemory};
+use poa_history::Run;
 use poa_history::calls::call_of;
 use poa_history::workers::stage;
 use std::alloc::Global;
@@ -35,69 +36,58 @@ fn reply_after_trial(
 
 /// The outcome of the servant's act on the call, in its state after the history.
 fn reply_run(
-    alloc: Global,
-    config: &Config,
-    run: u32,
+    run: &Run<'_>,
     store: &Store,
     past: &[Entry],
     servant: Option<Sid>,
     call: Option<&Call>,
 ) -> Result<Option<Reply>, WantMemory>
     ensures { IfOk result
-        (λ reply. reply ≡ replies.reply_run config.now run (stored_at_opening store.now)
+        (λ reply. reply ≡ replies.reply_run run.now.config.now run.now.number
+        (stored_at_opening store.now)
         (reverse past.now) servant
         (option_copied call.entry)) }
 {
     let Some(servant) = servant else {
         return Ok(None);
     };
-    let kept = kept_of(alloc, config, run, store, past)?;
-    let state = state_in(config, &kept.servants, servant)?;
-    let done = act(alloc, state, call)?;
+    let kept = kept_of(run, store, past)?;
+    let state = state_in(run.config, &kept.servants, servant)?;
+    let done = act(run.alloc, state, call)?;
     Ok(Some(Reply::Outcome(done.outcome)))
 }
 
 /// The reply that a worker's Run fixes.
 fn reply_ran(
-    alloc: Global,
-    config: &Config,
-    run: u32,
+    run: &Run<'_>,
     store: &Store,
     past: &[Entry],
     worker: u32,
 ) -> Result<Option<Reply>, WantMemory>
     ensures { IfOk result
-        (λ reply. reply ≡ replies.reply_run config.now run (stored_at_opening store.now)
+        (λ reply. reply ≡ replies.reply_run run.now.config.now run.now.number
+        (stored_at_opening store.now)
         (reverse past.now)
-        (states.servant_run config.now run (reverse past.now)
+        (states.servant_run run.now.config.now run.now.number (reverse past.now)
         (begun.stage (reverse past.now) worker))
         (states.call_run (reverse past.now) (begun.stage (reverse past.now) worker))) }
 {
     let stage = stage(past, worker);
-    let servant = servant_run(alloc, config, run, past, stage)?;
-    reply_run(
-        alloc,
-        config,
-        run,
-        store,
-        past,
-        servant,
-        call_run(past, stage),
-    )
+    let servant = servant_run(run, past, stage)?;
+    reply_run(run, store, past, servant, call_run(past, stage))
 }
 
 /// The reply that an entry fixes for the arrival that it decides.
 fn reply_by(
-    alloc: Global,
-    config: &Config,
-    run: u32,
+    run: &Run<'_>,
     store: &Store,
     past: &[Entry],
     entry: &Entry,
     arrival: u64,
 ) -> Result<Option<Reply>, WantMemory>
     ensures { IfOk result
-        (λ reply. reply ≡ replies.reply_by config.now run (stored_at_opening store.now)
+        (λ reply. reply ≡ replies.reply_by run.now.config.now run.now.number
+        (stored_at_opening store.now)
         (reverse past.now) entry.now arrival) }
 {
     let call = call_of(past, arrival);
@@ -106,15 +96,15 @@ fn reply_by(
             arrival: of,
             verdict,
             ..
-        } if *of == arrival => reply_admitted(alloc, call, verdict),
+        } if *of == arrival => reply_admitted(run.alloc, call, verdict),
         Entry::Tried { worker, answer } if is_at_work(past, *worker, arrival) => {
-            Ok(Some(reply_after_trial(alloc, config, past, call, answer)?))
+            Ok(Some(reply_after_trial(run.alloc, run.config, past, call, answer)?))
         }
         Entry::Incarnated { worker, answer } if is_at_work(past, *worker, arrival) => {
-            reply_incarnated(alloc, call, answer)
+            reply_incarnated(run.alloc, call, answer)
         }
         Entry::Run { worker } if is_at_work(past, *worker, arrival) => {
-            reply_ran(alloc, config, run, store, past, *worker)
+            reply_ran(run, store, past, *worker)
         }
         _ => Ok(Some(good(call))),
     }
@@ -122,9 +112,7 @@ fn reply_by(
 
 /// The reply of an arrival after one entry more, by the one before it.
 fn reply_after(
-    alloc: Global,
-    config: &Config,
-    run: u32,
+    run: &Run<'_>,
     store: &Store,
     past: &[Entry],
     whole: &[Entry],
@@ -134,16 +122,18 @@ fn reply_after(
 ) -> Result<Option<Reply>, WantMemory>
     requires whole { reverse whole.now ≡ entry.now ∷ reverse past.now }
     requires before { before
-        ≡ replies.reply_of config.now run (stored_at_opening store.now) (reverse past.now) arrival }
+        ≡ replies.reply_of run.now.config.now run.now.number (stored_at_opening store.now)
+        (reverse past.now) arrival }
     ensures { IfOk result
-        (λ reply. reply ≡ replies.reply_of config.now run (stored_at_opening store.now)
+        (λ reply. reply ≡ replies.reply_of run.now.config.now run.now.number
+        (stored_at_opening store.now)
         (entry.now ∷ reverse past.now) arrival) }
 {
-    if decided(alloc, config, run, past, arrival)? {
+    if decided(run, past, arrival)? {
         return Ok(before);
     }
-    if decided(alloc, config, run, whole, arrival)? {
-        reply_by(alloc, config, run, store, past, entry, arrival)
+    if decided(run, whole, arrival)? {
+        reply_by(run, store, past, entry, arrival)
     } else {
         Ok(None)
     }
@@ -152,24 +142,21 @@ fn reply_after(
 /// The reply to an arrival after a history, which stands oldest first, in a run of this number that opened
 /// with this store; none where it isn't decided. `WantMemory`: no memory was left to compute it.
 pub fn slow_reply(
-    alloc: Global,
-    config: &Config,
-    run: u32,
+    run: &Run<'_>,
     store: &Store,
     history: &[Entry],
     arrival: u64,
 ) -> Result<Option<Reply>, WantMemory>
     ensures { IfOk result
-        (λ reply. reply ≡ replies.reply_of config.now run (stored_at_opening store.now)
+        (λ reply. reply ≡ replies.reply_of run.now.config.now run.now.number
+        (stored_at_opening store.now)
         (reverse history.now) arrival) }
 {
     let mut reply = None;
     for (i, entry) in history.iter().enumerate() {
         let past = &history[..i];
         let whole = &history[..i + 1];
-        reply = reply_after(
-            alloc, config, run, store, past, whole, entry, arrival, reply,
-        )?;
+        reply = reply_after(run, store, past, whole, entry, arrival, reply)?;
     }
     Ok(reply)
 }

@@ -8,9 +8,9 @@ use core_standing::{Standing, standing_of};
 use history_standing::templates::servant_number;
 use history_standing::{Activation, Phase, Stage};
 use poa_base::{Call, Config, Entry, Name, Sid, Verdict, WantMemory};
+use poa_history::Run;
 use poa_history::calls::call_of;
 use poa_history::workers::admitted;
-use std::alloc::Global;
 
 /// The servant of an activation, where it has one.
 fn servant_of_activation(activation: Option<&Activation>) -> Option<Sid>
@@ -52,20 +52,15 @@ fn servant_by(
 }
 
 /// The servant that runs at the Run of a worker.
-pub fn servant_run(
-    alloc: Global,
-    config: &Config,
-    run: u32,
-    past: &[Entry],
-    stage: Stage,
-) -> Result<Option<Sid>, WantMemory>
+pub fn servant_run(run: &Run<'_>, past: &[Entry], stage: Stage) -> Result<Option<Sid>, WantMemory>
     ensures { IfOk result
-        (λ servant. servant ≡ states.servant_run config.now run (reverse past.now) stage) }
+        (λ servant. servant ≡ states.servant_run run.now.config.now run.now.number
+        (reverse past.now) stage) }
 {
     match stage {
         Stage::Serving(arrival) => {
-            let standing = standing_of(alloc, config, run, past)?;
-            servant_by(config, &standing, admitted(past, arrival))
+            let standing = standing_of(run.alloc, run.config, run.number, past)?;
+            servant_by(run.config, &standing, admitted(past, arrival))
         }
         _ => Ok(None),
     }

@@ -1,6 +1,6 @@
 //! What the commands of a history have set.
 ghost use Rattle.std.specs.Prelude.{◌≡◌, [], reverse, IfOk, OnOk};
-ghost use Rattle.core_settings.specs.Told.{Tells};
+ghost use Rattle.core_settings.specs.Told.{SettingsAgree};
 
 use core_settings::{Settings, apply, opening};
 use core_standing::asked_commands::command_done;
@@ -9,8 +9,8 @@ use std::alloc::Global;
 
 /// Takes in the entries of a history that stands oldest first.
 fn follow(config: &Config, history: &[Entry], settings: &mut Settings) -> Result<(), WantMemory>
-    ensures { Tells config.now [] settings.old
-        → OnOk result (Tells config.now (reverse history.now) settings.new) }
+    ensures { SettingsAgree config.now [] settings.old
+        → OnOk result (SettingsAgree config.now (reverse history.now) settings.new) }
 {
     for (i, entry) in history.iter().enumerate() {
         apply(config, command_done(&history[..i], entry), settings)?;
@@ -24,7 +24,7 @@ pub fn settings_of(
     config: &Config,
     history: &[Entry],
 ) -> Result<Settings, WantMemory>
-    ensures { IfOk result (λ settings. Tells config.now (reverse history.now) settings) }
+    ensures { IfOk result (λ settings. SettingsAgree config.now (reverse history.now) settings) }
 {
     let mut settings = opening(alloc, config)?;
     follow(config, history, &mut settings)?;

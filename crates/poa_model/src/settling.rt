@@ -12,8 +12,8 @@ use core_standing::orders::{are_ended, is_quiet};
 use core_standing::standing_of;
 use history_standing::templates::manager_number;
 use poa_base::{Command, Config, Entry, Name, Order, WantMemory};
+use poa_history::Run;
 use poa_history::calls::call_of;
-use std::alloc::Global;
 
 /// What stood when the arrival was admitted.
 fn before_admit<'a>(history: &'a [Entry], arrival: u64) -> &'a [Entry]
@@ -54,30 +54,35 @@ fn is_overtaken(config: &Config, manager: u32, history: &[Entry], arrival: u64) 
 
 /// Whether what an order to a manager waits for holds.
 fn order_holds(
-    alloc: Global,
-    config: &Config,
-    run: u32,
+    run: &Run<'_>,
     history: &[Entry],
     arrival: u64,
     manager: u32,
     order: Order,
 ) -> Result<bool, WantMemory>
     ensures { IfOk result
-        (λ holds. holds ≡ settling.order_holds config.now run (reverse history.now) arrival manager
+        (λ holds. holds ≡ settling.order_holds run.now.config.now run.now.number
+        (reverse history.now) arrival manager
         order) }
 {
-    let standing = standing_of(alloc, config, run, history)?;
+    let standing = standing_of(run.alloc, run.config, run.number, history)?;
     match order {
         Order::Activate => Ok(true),
         Order::Hold { .. } | Order::Discard { .. } => Ok(
-            is_quiet(config, &standing, manager) || is_overtaken(config, manager, history, arrival),
+            is_quiet(run.config, &standing, manager)
+                || is_overtaken(run.config, manager, history, arrival),
         ),
         Order::Deactivate { etherealize, .. } => {
-            let before = standing_of(alloc, config, run, before_admit(history, arrival))?;
+            let before = standing_of(
+                run.alloc,
+                run.config,
+                run.number,
+                before_admit(history, arrival),
+            )?;
             let begun = before.begun()? as usize;
             Ok(
-                is_quiet(config, &standing, manager)
-                    && (!etherealize || are_ended(config, &standing, manager, begun)),
+                is_quiet(run.config, &standing, manager)
+                    && (!etherealize || are_ended(run.config, &standing, manager, begun)),
             )
         }
     }
@@ -85,68 +90,59 @@ fn order_holds(
 
 /// Whether the adapter that a destroy named is gone.
 fn destroy_holds(
-    alloc: Global,
-    config: &Config,
-    run: u32,
+    run: &Run<'_>,
     history: &[Entry],
     arrival: u64,
     path: &[Name],
 ) -> Result<bool, WantMemory>
     ensures { IfOk result
-        (λ holds. holds ≡ ends.is_gone config.now (standing config.now run (reverse history.now))
-        (number_of_path (standing config.now run
+        (λ holds. holds ≡ ends.is_gone run.now.config.now
+        (standing run.now.config.now run.now.number (reverse history.now))
+        (number_of_path (standing run.now.config.now run.now.number
         (settling.before_admit (reverse history.now) arrival)) path.now)) }
 {
-    let before = standing_of(alloc, config, run, before_admit(history, arrival))?;
-    let standing = standing_of(alloc, config, run, history)?;
-    Ok(is_gone(config, &standing, number_at(&before, path)))
+    let before = standing_of(
+        run.alloc,
+        run.config,
+        run.number,
+        before_admit(history, arrival),
+    )?;
+    let standing = standing_of(run.alloc, run.config, run.number, history)?;
+    Ok(is_gone(run.config, &standing, number_at(&before, path)))
 }
 
 /// Whether the condition of a command that waits holds after the history.
 fn settles_by(
-    alloc: Global,
-    config: &Config,
-    run: u32,
+    run: &Run<'_>,
     history: &[Entry],
     arrival: u64,
     command: Option<&Command>,
 ) -> Result<bool, WantMemory>
     ensures { IfOk result
-        (λ holds. holds ≡ settling.settles_by config.now run (reverse history.now) arrival
+        (λ holds. holds ≡ settling.settles_by run.now.config.now run.now.number
+        (reverse history.now) arrival
         (option_copied command.entry)) }
 {
     match command {
-        Some(Command::Manager { manager, order }) => match manager_number(config, manager) {
+        Some(Command::Manager { manager, order }) => match manager_number(run.config, manager) {
             Some(number) => {
                 let number = u32::try_from(number).map_err(|_| WantMemory)?;
-                order_holds(alloc, config, run, history, arrival, number, *order)
+                order_holds(run, history, arrival, number, *order)
             }
             None => Ok(false),
         },
         Some(Command::Destroy { path, .. }) => {
-            destroy_holds(alloc, config, run, history, arrival, path.as_slice())
+            destroy_holds(run, history, arrival, path.as_slice())
         }
         _ => Ok(false),
     }
 }
 
 /// Whether the condition of the command of an arrival holds after the history.
-pub fn settles(
-    alloc: Global,
-    config: &Config,
-    run: u32,
-    history: &[Entry],
-    arrival: u64,
-) -> Result<bool, WantMemory>
+pub fn settles(run: &Run<'_>, history: &[Entry], arrival: u64) -> Result<bool, WantMemory>
     ensures { IfOk result
-        (λ holds. holds ≡ settling.settles config.now run (reverse history.now) arrival) }
+        (λ holds. holds ≡ settling.settles run.now.config.now run.now.number
+        (reverse history.now) arrival) }
 {
-    settles_by(
-        alloc,
-        config,
-        run,
-        history,
-        arrival,
-        command_in(call_of(history, arrival)),
-    )
+    settles_by(run, history, arrival, command_in(call_of(history, arrival)))
 }

@@ -9,28 +9,26 @@ use crate::verdicts::slow_verdict;
 use core_standing::standing_of;
 use core_turns::{going_on, removal};
 use history_standing::Stage;
-use poa_base::{Config, Entry, Store, WantMemory};
+use poa_base::{Entry, WantMemory};
+use poa_history::Run;
 use poa_history::calls::arrivals;
 use poa_history::workers::{admitted, stage};
-use std::alloc::Global;
 
 /// The Admit of an arrival that is ready for the worker.
 fn admission_of(
-    alloc: Global,
-    config: &Config,
-    run: u32,
-    store: &Store,
+    run: &Run<'_>,
     history: &[Entry],
     worker: u32,
     arrival: u64,
 ) -> Result<Option<Entry>, WantMemory>
     ensures { IfOk result
-        (λ entry. entry ≡ turns.admission_of config.now run (reverse history.now) worker arrival) }
+        (λ entry. entry ≡ turns.admission_of run.now.config.now run.now.number
+        (reverse history.now) worker arrival) }
 {
     if admitted(history, arrival).is_some() {
         return Ok(None);
     }
-    match slow_verdict(alloc, config, run, store, history, arrival, worker)? {
+    match slow_verdict(run, history, arrival, worker)? {
         Some(verdict) => Ok(Some(Entry::Admit {
             worker,
             arrival,
@@ -42,10 +40,7 @@ fn admission_of(
 
 /// What was found, else the Admit of an arrival that is ready for the worker.
 fn or_admission(
-    alloc: Global,
-    config: &Config,
-    run: u32,
-    store: &Store,
+    run: &Run<'_>,
     history: &[Entry],
     worker: u32,
     arrival: u64,
@@ -53,71 +48,54 @@ fn or_admission(
 ) -> Result<Option<Entry>, WantMemory>
     ensures { IfOk result
         (λ entry. entry ≡ option_or found
-        (turns.admission_of config.now run (reverse history.now) worker arrival)) }
+        (turns.admission_of run.now.config.now run.now.number
+        (reverse history.now) worker arrival)) }
 {
     match found {
         Some(entry) => Ok(Some(entry)),
-        None => admission_of(alloc, config, run, store, history, worker, arrival),
+        None => admission_of(run, history, worker, arrival),
     }
 }
 
 /// The least arrival that is ready is admitted.
-fn admission(
-    alloc: Global,
-    config: &Config,
-    run: u32,
-    store: &Store,
-    history: &[Entry],
-    worker: u32,
-) -> Result<Option<Entry>, WantMemory>
+fn admission(run: &Run<'_>, history: &[Entry], worker: u32) -> Result<Option<Entry>, WantMemory>
     ensures { IfOk result
-        (λ entry. entry ≡ turns.admission config.now run (reverse history.now) worker) }
+        (λ entry. entry ≡ turns.admission run.now.config.now run.now.number
+        (reverse history.now) worker) }
 {
     let mut found = None;
     for arrival in 0..arrivals(history) {
-        found = or_admission(alloc, config, run, store, history, worker, arrival, found)?;
+        found = or_admission(run, history, worker, arrival, found)?;
     }
     Ok(found)
 }
 
 /// The next entry of a worker that has begun nothing.
-fn next_free(
-    alloc: Global,
-    config: &Config,
-    run: u32,
-    store: &Store,
-    history: &[Entry],
-    worker: u32,
-) -> Result<Option<Entry>, WantMemory>
+fn next_free(run: &Run<'_>, history: &[Entry], worker: u32) -> Result<Option<Entry>, WantMemory>
     ensures { IfOk result
-        (λ entry. entry ≡ turns.next_of config.now run (reverse history.now) worker Free) }
+        (λ entry. entry ≡ turns.next_of run.now.config.now run.now.number
+        (reverse history.now) worker Free) }
 {
-    let standing = standing_of(alloc, config, run, history)?;
-    match removal(config, &standing, worker) {
+    let standing = standing_of(run.alloc, run.config, run.number, history)?;
+    match removal(run.config, &standing, worker) {
         Some(entry) => Ok(Some(entry)),
-        None => admission(alloc, config, run, store, history, worker),
+        None => admission(run, history, worker),
     }
 }
 
 /// The entry that a worker makes next after a history that stands oldest first; none where it has
 /// nothing to do.
 #[tactic(auto, unfolding(poa_history::specs::Turns::turn))]
-pub fn slow_next(
-    alloc: Global,
-    config: &Config,
-    run: u32,
-    store: &Store,
-    history: &[Entry],
-    worker: u32,
-) -> Result<Option<Entry>, WantMemory>
+pub fn slow_next(run: &Run<'_>, history: &[Entry], worker: u32) -> Result<Option<Entry>, WantMemory>
     ensures { IfOk result
-        (λ entry. entry ≡ turns.turn config.now run (reverse history.now) worker) }
+        (λ entry. entry ≡ turns.turn run.now.config.now run.now.number
+        (reverse history.now) worker) }
 {
     match stage(history, worker) {
-        Stage::Free => next_free(alloc, config, run, store, history, worker),
+        Stage::Free => next_free(run, history, worker),
         begun => {
-            let standing = standing_of(alloc, config, run, history)?;
-            going_on(config, &standing, worker, begun)
+            let standing = standing_of(run.alloc, run.config, run.number, history)?;
+            going_on(run.config, &standing, worker, begun)
         }
     }
 }

@@ -4,7 +4,7 @@ use crate::task::Task;
 use conf_toml::read_config;
 use poa_base::{Datum, Entry, Outcome, Reply, Store, WantMemory};
 use poa_core::{Core, Phase};
-use poa_model::first_illegal;
+use poa_model::{Run, first_illegal};
 use std::alloc::Global;
 use std::sync::Wait;
 use std::test::Fail;
@@ -44,14 +44,12 @@ const JUDGED: usize = 300;
 
 /// Whether the journal is legal so far, as a slow program computes it from the definitions.
 fn is_legal(alloc: Global, core: &Core, entries: &[Entry]) -> Result<bool, Fail> {
-    let place = first_illegal(
+    let run = Run {
         alloc,
-        core.config(),
-        core.run(),
-        4_000_000,
-        core.opening(),
-        &entries[..entries.len().min(JUDGED)],
-    )?;
+        config: core.config(),
+        number: core.run(),
+    };
+    let place = first_illegal(&run, 4_000_000, &entries[..entries.len().min(JUDGED)])?;
     Ok(place.is_none())
 }
 

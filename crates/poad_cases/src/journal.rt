@@ -8,7 +8,7 @@ use command_words::serve_words;
 use outside::MemFiles;
 use poa_core::Core;
 use poa_journal::{print_parts, print_store, read};
-use poa_model::first_illegal;
+use poa_model::{Run, first_illegal};
 use poad_cmd::Doors;
 use std::alloc::Global;
 
@@ -87,8 +87,12 @@ fn judgement(alloc: Global, core: &Core, limit: u64) -> Result<String> {
         return Ok(String::from_str(alloc, "legal")?);
     }
     let entries = core.entries().to_vec(alloc)?;
-    let (config, opening) = (core.config(), core.opening());
-    match first_illegal(alloc, config, core.run(), limit, opening, &entries)? {
+    let run = Run {
+        alloc,
+        config: core.config(),
+        number: core.run(),
+    };
+    match first_illegal(&run, limit, &entries)? {
         Some(place) => Ok(format!(in alloc; "illegal {place}")?),
         None => Ok(String::from_str(alloc, "legal")?),
     }

@@ -1,9 +1,9 @@
 //! What no clause says: that each call succeeds with ample memory, on a run with one `shutdown`.
 use poa_base::{
-    Answer, Bytes, Call, Command, Config, Entry, Items, ManagerState, Store, Templates, Verdict,
+    Answer, Bytes, Call, Command, Config, Entry, Items, ManagerState, Templates, Verdict,
     WantMemory,
 };
-use poa_model::{first_illegal, may_follow};
+use poa_model::{Run, first_illegal, may_follow};
 use std::alloc::Global;
 use std::test::Fail;
 
@@ -53,18 +53,25 @@ fn whole(alloc: Global) -> Result<Vec<Entry>, Fail> {
     Ok(history)
 }
 
+/// The first run of a configuration.
+fn run_of(alloc: Global, config: &Config) -> Run<'_> {
+    Run {
+        alloc,
+        config,
+        number: 1,
+    }
+}
+
 /// The place of the first illegal entry of a history.
 fn illegal_place(alloc: Global, history: &[Entry]) -> Result<Option<usize>, WantMemory> {
     let config = config(alloc)?;
-    let store = Store::new(alloc);
-    first_illegal(alloc, &config, 1, 0, &store, history)
+    first_illegal(&run_of(alloc, &config), 0, history)
 }
 
 /// Whether an entry may come behind these.
 fn may_come(alloc: Global, past: &[Entry], entry: &Entry) -> Result<bool, WantMemory> {
     let config = config(alloc)?;
-    let store = Store::new(alloc);
-    may_follow(alloc, &config, 1, 0, &store, past, entry)
+    may_follow(&run_of(alloc, &config), 0, past, entry)
 }
 
 #[test]

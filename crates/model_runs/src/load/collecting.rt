@@ -17,8 +17,7 @@ impl Play {
         let undecided = mem::replace(&mut self.undecided, Vec::new(self.alloc));
         for arrival in &undecided {
             let arrival = *arrival;
-            let config = &self.config;
-            if decided(self.alloc, config, config.run, &self.history, arrival)? {
+            if decided(&self.given(), &self.history, arrival)? {
                 let conn = conn_of(&self.history, arrival).ok_or(Fault::Load)?;
                 self.due.push(Due { conn, arrival })?;
             } else {
@@ -43,8 +42,7 @@ impl Play {
         let Some(first) = due.iter().find(|due| due.conn == conn) else {
             return Ok(());
         };
-        let config = &self.config;
-        let next = slow_next_reply(self.alloc, config, config.run, &self.history, conn)?;
+        let next = slow_next_reply(&self.given(), &self.history, conn)?;
         if next == Some(first.arrival) {
             Ok(())
         } else {

@@ -26,8 +26,7 @@ impl Counts {
     /// What is counted of a load that was played to its end.
     pub fn of(play: &Play) -> Result<Counts, Fault> {
         let history = &play.history;
-        let config = &play.config;
-        let kept = kept_of(play.alloc, config, config.run, &play.store, history)?;
+        let kept = kept_of(&play.given(), &play.store, history)?;
         Ok(Counts {
             entries: history.len(),
             incarnations: history.iter().filter(|entry| has_brought(entry)).count(),

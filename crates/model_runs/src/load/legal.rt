@@ -38,14 +38,5 @@ fn is_collect(entry: &Entry) -> bool {
 
 /// Whether an entry may follow these.
 fn follows(play: &Play, past: &[Entry], entry: &Entry) -> Result<bool, Fault> {
-    let config = &play.config;
-    Ok(may_follow(
-        play.alloc,
-        config,
-        config.run,
-        CALLS,
-        &play.store,
-        past,
-        entry,
-    )?)
+    Ok(may_follow(&play.given(), CALLS, past, entry)?)
 }

@@ -6,7 +6,7 @@ use crate::load::due::Due;
 use conf_toml::read_config;
 use poa_base::{Call, Config, Entry, Store};
 use poa_history::calls::arrivals;
-use poa_model::slow_next;
+use poa_model::{Run, slow_next};
 use poad_load::CONFIGURATION;
 use std::alloc::Global;
 
@@ -151,11 +151,18 @@ impl Play {
         Err(Fault::Load)
     }
 
+    /// The run, as the slow programs are given it.
+    pub fn given(&self) -> Run<'_> {
+        Run {
+            alloc: self.alloc,
+            config: &self.config,
+            number: self.config.run,
+        }
+    }
+
     /// A worker's next entry is made. Whether there is one.
     fn turn(&mut self, worker: u32) -> Result<bool, Fault> {
-        let config = &self.config;
-        let history = self.history.as_slice();
-        let next = slow_next(self.alloc, config, config.run, &self.store, history, worker)?;
+        let next = slow_next(&self.given(), &self.history, worker)?;
         let Some(entry) = next else {
             return Ok(false);
         };

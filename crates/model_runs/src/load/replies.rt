@@ -99,8 +99,7 @@ fn compare(play: &Play, whole: &[Entry], arrival: u64, id: u32, said: &Bytes) ->
 
 /// The message of the reply which `slow_reply` gives after these entries.
 fn slow_message(play: &Play, whole: &[Entry], arrival: u64, id: u32) -> Result<Bytes, Fault> {
-    let config = &play.config;
-    let reply = slow_reply(play.alloc, config, config.run, &play.store, whole, arrival)?;
+    let reply = slow_reply(&play.given(), &play.store, whole, arrival)?;
     let reply = reply.ok_or(Fault::Load)?;
     message(play.alloc, id, &reply)
 }

@@ -9,7 +9,7 @@ use object_key::write_key;
 use poa_base::{Body, Bytes, Call, Config, Entry, Head, Key, Path, Stamp, Store, WantMemory};
 use poa_history::calls::call_of;
 use poa_journal::print_entry;
-use poa_model::{first_illegal, slow_next, slow_next_reply, slow_owed, slow_reply};
+use poa_model::{Run, first_illegal, slow_next, slow_next_reply, slow_owed, slow_reply};
 use std::alloc::Global;
 use text_words::{any_identity, number32, path, put_number, signed, words};
 
@@ -92,6 +92,15 @@ impl Play {
         }
     }
 
+    /// The run, as the slow programs are given it.
+    fn given(&self) -> Run<'_> {
+        Run {
+            alloc: self.alloc,
+            config: &self.config,
+            number: self.config.run,
+        }
+    }
+
     /// All workers run until they are idle, the connections are given their replies, and the history is
     /// looked over.
     pub fn finish(&mut self, out: &mut Vec<u8>) -> Result<(), Fault> {
@@ -107,9 +116,7 @@ impl Play {
 
     /// Says whether the history is legal, or which entry isn't.
     fn judge(&self, out: &mut Vec<u8>) -> Result<(), Fault> {
-        let alloc = self.alloc;
-        let config = &self.config;
-        let first = first_illegal(alloc, config, config.run, LIMIT, &self.store, &self.history)?;
+        let first = first_illegal(&self.given(), LIMIT, &self.history)?;
         match first {
             Some(place) => {
                 out.extend_from_slice(b"illegal")?;
@@ -200,8 +207,7 @@ impl Play {
     /// The connection is given the replies that are ready.
     fn collect(&mut self, conn: u32, out: &mut Vec<u8>) -> Result<(), Fault> {
         for _ in 0..REPLIES {
-            let run = self.config.run;
-            let next = slow_next_reply(self.alloc, &self.config, run, &self.history, conn)?;
+            let next = slow_next_reply(&self.given(), &self.history, conn)?;
             let Some(arrival) = next else {
                 return Ok(());
             };
@@ -213,8 +219,7 @@ impl Play {
 
     /// Prints how many replies the connection is still owed.
     fn count_owed(&self, conn: u32, out: &mut Vec<u8>) -> Result<(), Fault> {
-        let run = self.config.run;
-        let owed = slow_owed(self.alloc, &self.config, run, &self.history, conn)?;
+        let owed = slow_owed(&self.given(), &self.history, conn)?;
         out.extend_from_slice(b"owed")?;
         put_number(out, u64::from(conn))?;
         put_number(out, owed)?;
@@ -224,9 +229,8 @@ impl Play {
 
     /// Prints the reply to an arrival.
     fn tell(&self, conn: u32, arrival: u64, out: &mut Vec<u8>) -> Result<(), Fault> {
-        let run = self.config.run;
         let history = self.history.as_slice();
-        let reply = slow_reply(self.alloc, &self.config, run, &self.store, history, arrival)?;
+        let reply = slow_reply(&self.given(), &self.store, history, arrival)?;
         match reply {
             Some(reply) => put_reply(out, conn, request_id(call_of(history, arrival)), &reply),
             None => Err(Fault::Script),
@@ -235,15 +239,7 @@ impl Play {
 
     /// A worker's next entry is made. Whether there is one.
     fn turn(&mut self, worker: u32, out: &mut Vec<u8>) -> Result<bool, Fault> {
-        let run = self.config.run;
-        let next = slow_next(
-            self.alloc,
-            &self.config,
-            run,
-            &self.store,
-            &self.history,
-            worker,
-        )?;
+        let next = slow_next(&self.given(), &self.history, worker)?;
         let Some(entry) = next else {
             return Ok(false);
         };

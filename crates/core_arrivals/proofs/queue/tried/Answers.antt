@@ -4,14 +4,14 @@ use Rattle.poa_base.specs.declared.Entry.TheVariants.{Tried}
 use Rattle.poa_history.specs.InFlight.{IsManned}
 use Rattle.poa_history.specs.Legal.{MayFollow}
 use Rattle.history_standing.specs.Stages.{stage, arrival_in}
-use Rattle.core_arrivals.specs.Queued.{IsQueue, call_tried}
+use Rattle.core_arrivals.specs.Queued.{QueueAgrees, call_tried}
 use Rattle.core_arrivals.proofs.Queueing.{kept, changes_queue}
 use Rattle.core_arrivals.proofs.queue.tried.Goals as goal
 
 pub returns-in-Yes : goal.returns-in-Yes
 returns-in-Yes c = λ config run limit past w.
     subst (λ a. MayFollow config run limit past (Tried w a) → IsManned config run past → c.args.arrival ≡ arrival_in (stage past w)
-    → option_copied c.args.call ≡ call_tried past (Tried w a) → IsQueue past c.args.queue.now → IsQueue (Tried w a ∷ past) c.child_made.new.queue)
+    → option_copied c.args.call ≡ call_tried past (Tried w a) → QueueAgrees past c.args.queue.now → QueueAgrees (Tried w a ∷ past) c.child_made.new.queue)
     (sym c.in-Yes.is) (c.child_made.ensures config run limit past w c.in-Yes.number)
 
 pub returns-in-No : goal.returns-in-No

@@ -21,5 +21,5 @@ returns-in-Etherealized-clause-ok c =
 
 pub returns-in_default : goal.returns-in_default
 returns-in_default c =
-    let quiet = quiet_unless c.args.entry.now c.in_default.not-Incarnated c.in_default.not-Run c.in_default.not-Etherealized in
+    let quiet = quiet_unless c.args.coming.now.entry.now c.in_default.not-Incarnated c.in_default.not-Run c.in_default.not-Etherealized in
     record { ok = quiet_then _ _ _ _ _ _ _ quiet; outcome = quiet_tells _ _ _ _ _ _ _ quiet; err = tt; ends = tt }

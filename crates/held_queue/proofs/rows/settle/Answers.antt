@@ -1,5 +1,5 @@
 use Rattle.std.proofs.Common.{◌≡◌, ◌<◌, ◌+◌, ℕ, List, sym, subst, ap, ◌∙◌, arith, length, slice_index_or, slice_set}
-use Rattle.held_queue.specs.Held.{KnowsCalls}
+use Rattle.held_queue.specs.Held.{RowsAgree}
 use Rattle.held_queue.specs.Rows.{GoesOver, settled_grip, IsSettledRow}
 use Rattle.held_queue.specs.declared.numbers.Numbers.{Numbers}
 use Rattle.held_queue.specs.declared.row.Row.{Row}
@@ -33,8 +33,8 @@ loop-i-preserved c =
           w.settle_one.ensures.goes in
           let rows' : c.match-get_mut.rows.items ≡ slice_set c.loop-i.rows.items c.loop-i.i w.settle_one.new.row = ap (λ v. v.items) w.rows-is in
           record {
-            kept = λ conf run h same known. subst (λ (rows : List Row). KnowsCalls conf run h c.match-get_mut.ready.heap rows) (sym rows')
-                (subst (λ (n : Numbers). KnowsCalls conf run h n.heap (slice_set c.loop-i.rows.items c.loop-i.i w.settle_one.new.row)) (sym w.ready-is)
+            kept = λ conf run h same known. subst (λ (rows : List Row). RowsAgree conf run h c.match-get_mut.ready.heap rows) (sym rows')
+                (subst (λ (n : Numbers). RowsAgree conf run h n.heap (slice_set c.loop-i.rows.items c.loop-i.i w.settle_one.new.row)) (sym w.ready-is)
                 (known_settled conf run h c.args.flights.now same c.loop-i.ready.heap w.settle_one.new.ready.heap c.loop-i.rows.items c.loop-i.i old
                 w.settle_one.new.row low
                 (w.settle_one.ensures.grip ∙ ap (λ (row : Row). settled_grip c.args.flights.now row.grip) is) goes

@@ -1,5 +1,5 @@
 use Rattle.std.proofs.Common.{subst}
-use Rattle.core_state.specs.State.{IsState}
+use Rattle.core_state.specs.State.{StateAgrees}
 use Rattle.poa_history.specs.Life.{Life, opened}
 use Rattle.core_run.specs.Agreeing.{CountsAgree, RemovalsAgree}
 use Rattle.core_run.proofs.Agreed.{counts_agree, removals_agree}
@@ -18,4 +18,4 @@ returns-clause-removals c =
 pub returns-clause-state : goal.returns-clause-state
 returns-clause-state c =
     (let i = c.self.inside.inside in
-    subst (λ (l : Life). IsState l.config l.run (opened l) l.history i.state) c.self.view_is c.self.invariant.agrees.state)
+    subst (λ (l : Life). StateAgrees l.config l.run (opened l) l.history i.state) c.self.view_is c.self.invariant.agrees.state)

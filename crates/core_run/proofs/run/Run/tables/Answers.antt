@@ -1,7 +1,7 @@
 use Rattle.std.proofs.Common.{subst}
 use Rattle.poa_history.specs.Life.{Life}
 use Rattle.core_run.specs.Agreeing.{QueuesAgree}
-use Rattle.core_run.specs.Known.{KnowsTables}
+use Rattle.core_run.specs.Known.{TablesAgree}
 use Rattle.core_run.proofs.Agreed.{queues_agree}
 use Rattle.core_run.proofs.run.Run.tables.Goals as goal
 
@@ -13,4 +13,4 @@ returns-clause-queues c =
 pub returns-clause-tables : goal.returns-clause-tables
 returns-clause-tables c =
     (let i = c.self.inside.inside in
-    subst (λ (l : Life). KnowsTables l.config l.run l.history i.tables) c.self.view_is c.self.invariant.agrees.tables)
+    subst (λ (l : Life). TablesAgree l.config l.run l.history i.tables) c.self.view_is c.self.invariant.agrees.tables)

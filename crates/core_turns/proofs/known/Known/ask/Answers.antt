@@ -1,7 +1,7 @@
 use Rattle.std.proofs.Common.{◌≡◌, ◌<◌, Some, None, sym, subst, ap, ◌∙◌}
 use Rattle.history_standing.specs.Changes.{standing}
 use Rattle.history_standing.specs.Situations.{facts_of}
-use Rattle.held_queue.specs.Held.{AreHeld}
+use Rattle.held_queue.specs.Held.{HeldAgrees}
 use Rattle.poa_history.specs.Waiting.{is_waiting}
 use Rattle.held_queue.specs.declared.queue.HeldQueue.{HeldQueue}
 use Rattle.core_turns.specs.Looks.{looked}
@@ -52,7 +52,7 @@ returns-clause-held c =
     let flights = c.deref.ensures.value ∙ ap (λ s. s.flights) c.requires.told.stands.same in
     let held = c.settle.ensures.kept known.config.now known.run h flights c.requires.held in
     elim c.match-branch-3.branch [
-      | in-None w ↦ subst (λ (q : HeldQueue). AreHeld known.config.now known.run h q) (sym w.held-is)
+      | in-None w ↦ subst (λ (q : HeldQueue). HeldAgrees known.config.now known.run h q) (sym w.held-is)
           (w.drop_least.ensures known.config.now known.run h
           (looked_gone (is_waiting h c.in-Some.arrival)
           (looked (facts_of known.config.now known.run h c.in-Some.arrival) c.args.worker) c.in_ok-look.field-0 c.in_ok-look.ensures w.in-None.is) held)
@@ -61,7 +61,7 @@ returns-clause-held c =
           looked_waits (is_waiting h c.in-Some.arrival)
           (looked (facts_of known.config.now known.run h c.in-Some.arrival) c.args.worker) c.in_ok-look.field-0 w.in-Some-Held.field-0 c.in_ok-look.ensures
           w.in-Some-Held.is in
-          subst (λ (q : HeldQueue). AreHeld known.config.now known.run h q) (sym w.held-is)
+          subst (λ (q : HeldQueue). HeldAgrees known.config.now known.run h q) (sym w.held-is)
           (w.put.ensures known.config.now known.run h (waiting_arrived known.config.now known.run h c.args.worker c.in-Some.arrival told.0)
           (looked_held known.config.now known.run h c.args.worker (facts_of known.config.now known.run h c.in-Some.arrival) w.in-Some-Held.hold
           (told.1 ∙ w.in-Some-Held.field-0-is)) held))
