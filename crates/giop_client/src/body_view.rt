@@ -29,7 +29,7 @@ impl<'a> BodyView<'a> {
         ensures { IfOk result (λ body. body ≡ seen_body self.entry) }
     {
         Ok(Body {
-            bytes: Bytes::from_vec(Vec::from_slice(alloc, self.bytes)?),
+            bytes: Bytes::copy_of(alloc, self.bytes)?,
             little: self.little,
             base: self.base,
         })

@@ -24,7 +24,21 @@ pub(crate) fn request(
     ensures { IfOk result
         (λ bytes. bytes ≡ request_bytes (ask_of target.now operation.now argument.now number)) }
 {
-    let ask = Ask {
+    let ask = ask(alloc, target, operation, argument, number)?;
+    write_request(alloc, &ask)
+}
+
+// What is asked, with a copy of each part.
+fn ask(
+    alloc: Global,
+    target: &Target,
+    operation: &[u8],
+    argument: &Option<Datum>,
+    number: u32,
+) -> Result<Ask, WantMemory>
+    ensures { IfOk result (λ ask. ask ≡ ask_of target.now operation.now argument.now number) }
+{
+    Ok(Ask {
         head: Head {
             id: number,
             minor: target.minor,
@@ -33,8 +47,7 @@ pub(crate) fn request(
             locate: false,
         },
         key: target.key.clone()?,
-        operation: Bytes::from_vec(Vec::from_slice(alloc, operation)?),
+        operation: Bytes::copy_of(alloc, operation)?,
         argument: argument.clone()?,
-    };
-    write_request(alloc, &ask)
+    })
 }
