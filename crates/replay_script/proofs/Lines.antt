@@ -43,7 +43,7 @@ line_next : (text : List ℕ) (rows : List Connection) (names : List (List ℕ))
 line_next text rows names steps number rest l after so_far cut = sym so_far.read ∙ ap (λ ls. behind_steps steps (script_from so_far.past number ls)) cut
 
 -- and where it is a line
-line_read : (text : List ℕ) (rows : List Connection) (names : List (List ℕ)) (steps : List ScriptStep) (number : ℕ) (rest l after : List ℕ) (line : ScriptLine) (test : Bool)
+pub line_read : (text : List ℕ) (rows : List Connection) (names : List (List ℕ)) (steps : List ScriptStep) (number : ℕ) (rest l after : List ℕ) (line : ScriptLine) (test : Bool)
     (so_far : LinesRead text rows names steps number rest)
     → lines_of rest ≡ l ∷ lines_of after → line_at number (line_of l) ≡ Ok line → allowed_by rows (role_of line) ≡ test
     → script_of text ≡ behind_steps steps
