@@ -10,38 +10,34 @@ ghost use Rattle.poa_session.specs.Saying.{HasSaid};
 ghost use Rattle.poa_session.specs.Settling.{Settles};
 ghost use Rattle.poa_session.specs.Writing.{Writes};
 
+use crate::connection::Connection;
 use crate::paying::pay;
 use crate::writing::write_all;
 use giop_answer::{write_closing, write_error};
 use outside::Link;
 use poa_base::SessionEnd;
-use poa_shared::{Seat, Shared};
+use poa_shared::Seat;
 use session_laws::{Input, Peer};
-use std::alloc::Global;
 use std::sync::Wait;
 
 /// Brings a session to an end that it may have: pays what is owed and closes the connection, where the end asks it. What
 /// isn't read of the input is given up. How the session ended then.
 pub(crate) fn settle<R: Wait, L: Link>(
-    rt: &R,
-    alloc: Global,
-    shared: &Shared,
+    conn: &Connection<'_, R>,
     seat: &mut Seat,
     link: &mut L,
     input: Input,
-    conn: u32,
-    peer: Peer,
     end: SessionEnd,
 ) -> SessionEnd
-    requires seat { IsIdle shared.now seat.old }
-    requires conn { HoldsConnection (view seat.old) conn }
-    requires said { HasSaid conn (view seat.old) }
+    requires seat { IsIdle conn.now.shared.now seat.old }
+    requires conn { HoldsConnection (view seat.old) conn.now.number }
+    requires said { HasSaid conn.now.number (view seat.old) }
     requires end { end ≢ SessionEnd.WriteFault }
-    ensures seat { IsIdle shared.now seat.new }
-    ensures conn { HoldsConnection (view seat.new) conn }
+    ensures seat { IsIdle conn.now.shared.now seat.new }
+    ensures conn { HoldsConnection (view seat.new) conn.now.number }
     ensures settles { (g : Givens) → (view seat.old).givens ≡ Some g
-        → Settles g peer conn (view seat.old) (L.shown link.old) input (view seat.new)
-        (L.shown link.new) end result }
+        → Settles g conn.now.peer conn.now.number (view seat.old) (L.shown link.old) input
+        (view seat.new) (L.shown link.new) end result }
     ensures read { result ≡ SessionEnd.ReadFault → end ≡ SessionEnd.ReadFault }
     ensures failed { HasCause (L.shown link.old).write_faults (L.shown link.new).write_faults
         (result ≡ SessionEnd.WriteFault) }
@@ -49,13 +45,13 @@ pub(crate) fn settle<R: Wait, L: Link>(
     if !is_settling(end) {
         return end;
     }
-    if let Err(broken) = pay(rt, alloc, shared, seat, link, conn) {
+    if let Err(broken) = pay(conn.rt, conn.alloc, conn.shared, seat, link, conn.number) {
         return broken;
     }
     let Ok(minor) = input.closing_minor() else {
         return SessionEnd::WantMemory;
     };
-    if !close(link, peer, minor, end) {
+    if !close(link, conn.peer, minor, end) {
         return SessionEnd::WriteFault;
     }
     end

@@ -13,105 +13,86 @@ ghost use Rattle.poa_session.specs.Settling.{Converses};
 
 use crate::buffers::Buffers;
 use crate::closing::settle;
+use crate::connection::Connection;
 use crate::flow::Flow;
 use crate::rounds::round;
 use outside::Link;
 use poa_base::{SessionEnd, WantMemory};
 use poa_shared::{Aid, Seat, Shared};
-use session_laws::{Input, Peer};
-use std::alloc::Global;
+use session_laws::Input;
 use std::mem;
 use std::sync::Wait;
 
 /// Serves a connection round by round, until one of the two sides ends the session. How it ended.
 pub(crate) fn converse<R: Wait, L: Link>(
-    rt: &R,
-    alloc: Global,
-    shared: &Shared,
+    conn: &Connection<'_, R>,
     seat: &mut Seat,
     aid: &mut Aid,
     link: &mut L,
-    conn: u32,
-    peer: Peer,
 ) -> SessionEnd
-    requires seat { IsIdle shared.now seat.old }
-    requires aid { IsReady shared.now aid.old.seat }
-    requires conn { HoldsConnection (view seat.old) conn }
-    requires said { HasSaid conn (view seat.old) }
-    ensures seat { IsIdle shared.now seat.new }
-    ensures ready { IsReady shared.now aid.new.seat }
+    requires seat { IsIdle conn.now.shared.now seat.old }
+    requires aid { IsReady conn.now.shared.now aid.old.seat }
+    requires conn { HoldsConnection (view seat.old) conn.now.number }
+    requires said { HasSaid conn.now.number (view seat.old) }
+    ensures seat { IsIdle conn.now.shared.now seat.new }
+    ensures ready { IsReady conn.now.shared.now aid.new.seat }
     ensures aids { Aids aid.old.seat aid.new.seat }
-    ensures conn { HoldsConnection (view seat.new) conn }
+    ensures conn { HoldsConnection (view seat.new) conn.now.number }
     ensures converses { (g : Givens) → (view seat.old).givens ≡ Some g
-        → Converses g peer conn (view seat.old) (L.shown link.old) (view seat.new)
-        (L.shown link.new) result }
+        → Converses g conn.now.peer conn.now.number (view seat.old) (L.shown link.old)
+        (view seat.new) (L.shown link.new) result }
     ensures read { (g : Givens) → (view seat.old).givens ≡ Some g
         → HasCause (L.shown link.old).read_faults (L.shown link.new).read_faults
         (result ≡ SessionEnd.ReadFault) }
     ensures written { HasCause (L.shown link.old).write_faults (L.shown link.new).write_faults
         (result ≡ SessionEnd.WriteFault) }
 {
-    let mut input = Input::new(alloc, peer);
-    let Ok(mut buffers) = Buffers::new(alloc) else {
+    let mut input = Input::new(conn.alloc, conn.peer);
+    let Ok(mut buffers) = Buffers::new(conn.alloc) else {
         return SessionEnd::WantMemory;
     };
-    if hang(rt, shared, link, conn).is_err() {
+    if hang(conn.rt, conn.shared, link, conn.number).is_err() {
         return SessionEnd::WantMemory;
     }
-    talk(
-        rt,
-        alloc,
-        shared,
-        seat,
-        aid,
-        link,
-        &mut input,
-        &mut buffers,
-        conn,
-        peer,
-    )
+    talk(conn, seat, aid, link, &mut input, &mut buffers)
 }
 
 // The same, where nothing has come yet.
 fn talk<R: Wait, L: Link>(
-    rt: &R,
-    alloc: Global,
-    shared: &Shared,
+    conn: &Connection<'_, R>,
     seat: &mut Seat,
     aid: &mut Aid,
     link: &mut L,
     input: &mut Input,
     buffers: &mut Buffers,
-    conn: u32,
-    peer: Peer,
 ) -> SessionEnd
-    requires seat { IsIdle shared.now seat.old }
-    requires aid { IsReady shared.now aid.old.seat }
-    requires conn { HoldsConnection (view seat.old) conn }
-    requires said { HasSaid conn (view seat.old) }
-    requires fresh { Expects peer (OfIntake input.old) [] [] }
+    requires seat { IsIdle conn.now.shared.now seat.old }
+    requires aid { IsReady conn.now.shared.now aid.old.seat }
+    requires conn { HoldsConnection (view seat.old) conn.now.number }
+    requires said { HasSaid conn.now.number (view seat.old) }
+    requires fresh { Expects conn.now.peer (OfIntake input.old) [] [] }
     requires taken { input.old.taken ≡ 0 }
-    requires first { KnowsFirst peer input.old.ear [] }
+    requires first { KnowsFirst conn.now.peer input.old.ear [] }
     requires room { 0 < length buffers.old.piece.items }
-    ensures seat { IsIdle shared.now seat.new }
-    ensures ready { IsReady shared.now aid.new.seat }
+    ensures seat { IsIdle conn.now.shared.now seat.new }
+    ensures ready { IsReady conn.now.shared.now aid.new.seat }
     ensures aids { Aids aid.old.seat aid.new.seat }
-    ensures conn { HoldsConnection (view seat.new) conn }
+    ensures conn { HoldsConnection (view seat.new) conn.now.number }
     ensures converses { (g : Givens) → (view seat.old).givens ≡ Some g
-        → Converses g peer conn (view seat.old) (L.shown link.old) (view seat.new)
-        (L.shown link.new) result }
+        → Converses g conn.now.peer conn.now.number (view seat.old) (L.shown link.old)
+        (view seat.new) (L.shown link.new) result }
     ensures read { (g : Givens) → (view seat.old).givens ≡ Some g
         → HasCause (L.shown link.old).read_faults (L.shown link.new).read_faults
         (result ≡ SessionEnd.ReadFault) }
     ensures written { HasCause (L.shown link.old).write_faults (L.shown link.new).write_faults
         (result ≡ SessionEnd.WriteFault) }
 {
-    for _ in rt.forever() {
-        match round(rt, alloc, shared, seat, aid, link, input, buffers, conn) {
+    for _ in conn.rt.forever() {
+        match round(conn, seat, aid, link, input, buffers) {
             Flow::On => {}
             Flow::Ends(end) => {
-                let read = mem::replace(input, Input::new(alloc, peer));
-                return settle(rt, alloc, shared, seat, link, read, conn, peer, end);
+                let read = mem::replace(input, Input::new(conn.alloc, conn.peer));
+                return settle(conn, seat, link, read, end);
             }
             Flow::Broke(end) => return end,
         }

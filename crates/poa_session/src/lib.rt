@@ -6,6 +6,7 @@
 mod buffers;
 mod closing;
 mod collecting;
+mod connection;
 mod conversing;
 mod exchanged;
 mod exchanging;

@@ -9,6 +9,7 @@ ghost use Rattle.poa_session.specs.Served.{Served};
 ghost use Rattle.poa_session.specs.Settling.{TurnsAway, refusal as refusal_of};
 
 use crate::closing::close;
+use crate::connection::Connection;
 use crate::conversing::converse;
 use giop_answer::kind::MINOR;
 use outside::Link;
@@ -84,7 +85,14 @@ fn serve<R: Wait, L: Link>(
         Ok(conn) => conn,
         Err(fault) => return turn_away(link, peer, fault),
     };
-    let end = converse(rt, alloc, shared, seat, aid, link, conn, peer);
+    let served = Connection {
+        rt,
+        alloc,
+        shared,
+        number: conn,
+        peer,
+    };
+    let end = converse(&served, seat, aid, link);
     shared.take_down(rt, conn);
     shared.leave(rt, seat, conn);
     Session {

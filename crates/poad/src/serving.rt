@@ -4,7 +4,7 @@ use command_words::{Plan, plan_of};
 use outside::{Files, ThreadCrew};
 use outside_sockets::WaitingGate;
 use poa_base::Config;
-use poad_cmd::run_serve;
+use poad_cmd::{Means, run_serve};
 use poad_files::{Host, Status, take_config};
 use std::env;
 use std::net::Ipv4Addr;
@@ -43,7 +43,12 @@ where
         return Status::WantMemory;
     };
     let mut crew = ThreadCrew::new(alloc, *threads, Vec::new(alloc));
-    run_serve(threads, alloc, words, host, doors, &mut crew, &gate).status
+    let means = Means {
+        rt: threads,
+        alloc,
+        gate: &gate,
+    };
+    run_serve(&means, words, host, doors, &mut crew).status
 }
 
 // Whether a line is to be written for each connection: the variable POAD_LOG says `connections`.

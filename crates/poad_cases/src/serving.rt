@@ -8,7 +8,7 @@ use crate::signal::Signal;
 use anyhow::{Result, bail};
 use command_words::plan_of;
 use outside::{Gate, MemFiles, OpenGate, ThreadCrew};
-use poad_cmd::{Served, run_serve};
+use poad_cmd::{Means, Served, run_serve};
 use std::alloc::Global;
 use std::sync::{Arc, Wait};
 use std::thread::Threads;
@@ -56,6 +56,7 @@ where
     let mut crew = ThreadCrew::new(alloc, *rt, case.failing_starts.clone()?);
     let mut host = host_of(alloc, case, files)?;
     let doors = case.doors(lanes, signal)?;
-    let served = run_serve(rt, alloc, &case.words, &mut host, doors, &mut crew, gate);
+    let means = Means { rt, alloc, gate };
+    let served = run_serve(&means, &case.words, &mut host, doors, &mut crew);
     Ok((served, host.files))
 }

@@ -21,5 +21,5 @@ mod served;
 pub use reopening::a_run_opens_with_what_was_put;
 pub use run::run_words;
 pub use serve::run_serve;
-pub use serve_run::Doors;
+pub use serve_run::{Doors, Means};
 pub use served::Served;

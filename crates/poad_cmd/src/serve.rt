@@ -17,9 +17,8 @@ use crate::putting::put_files;
 use crate::served::Served;
 use outside::{Acceptor, Files, Gate, ThreadCrew};
 use poad_files::{Host, Status};
-use serve_run::{Doors, Finished, Run, serve_core};
-use std::alloc::Global;
-use std::sync::{Arc, Wait};
+use serve_run::{Doors, Finished, Means, Run, serve_core};
+use std::sync::Wait;
 use std::thread::Threads;
 
 /// Serves clients and administrators over these doors, by the words `serve FILE --lanes L --workers W --run N
@@ -46,13 +45,11 @@ use std::thread::Threads;
 /// and no more than 1 GiB of them, with the run's own `shutdown` where a link sends one too. The same holds where doors tell
 /// nothing and its journal shows room: no call was refused, and fewer than 4,000,000 connections entered.
 pub fn run_serve<T, R, S, K, F, A, G>(
-    rt: &R,
-    alloc: Global,
+    means: &Means<'_, R, G>,
     words: &[String],
     host: &mut Host<S, K, F>,
     doors: Doors<A>,
     crew: &mut ThreadCrew<T>,
-    gate: &Arc<G, Global>,
 ) -> Served<A>
 where
     T: Threads + Wait + Drop,
@@ -90,21 +87,19 @@ where
         → AreCalm A.faults doors result.doors → CanBegin serve (F.contents host.old.files) → IfSome result.core IsRoomy
         → (result.status ≡ Status.Ok) ⊎ (result.status ≡ Status.WantMemory) }
 {
-    match begin(alloc, words, &mut host.files) {
-        Ok(beginning) => serve_by(rt, alloc, beginning, &mut host.files, doors, crew, gate),
+    match begin(means.alloc, words, &mut host.files) {
+        Ok(beginning) => serve_by(means, beginning, &mut host.files, doors, crew),
         Err(status) => Served::refused(status, doors),
     }
 }
 
 // Serves on the core, and puts its store and its journal.
 fn serve_by<T, R, F, A, G>(
-    rt: &R,
-    alloc: Global,
+    means: &Means<'_, R, G>,
     beginning: Beginning<'_>,
     files: &mut F,
     doors: Doors<A>,
     crew: &mut ThreadCrew<T>,
-    gate: &Arc<G, Global>,
 ) -> Served<A>
 where
     T: Threads + Wait + Drop,
@@ -130,11 +125,11 @@ where
     ensures long_ones { F.long_ones files.new ≡ F.long_ones files.old }
 {
     let Beginning { words, core } = beginning;
-    let Finished { doors, run } = serve_core(rt, alloc, core, doors, words.workers, crew, gate);
+    let Finished { doors, run } = serve_core(means, core, doors, words.workers, crew);
     let Some(Run { core, outcome }) = run else {
         return Served::refused(Status::WantMemory, doors);
     };
-    let put = put_files(alloc, &words, &core, files);
+    let put = put_files(means.alloc, &words, &core, files);
     Served {
         status: status_of(&outcome, &put, core.filled()),
         doors,

@@ -20,6 +20,7 @@ pub mod Endings
 pub mod Opening
 pub mod Opened
 pub mod Touring
+pub mod Begun
 pub mod Attended
 pub mod DoorEnds
 pub mod Finishing

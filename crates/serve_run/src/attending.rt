@@ -9,12 +9,11 @@ ghost use Rattle.serve_run.specs.Doors.{DoorKept, DoorServed, ending_of, stop_of
 use crate::ran::{PieceEnd, Ran};
 use crate::received::Received;
 use crate::receiving::receive;
+use crate::reception::Reception;
 use crate::refusing::noted;
 use outside::Acceptor;
 use poa_history::{Full, Phase};
-use poa_shared::{Aid, Seat, Shared};
-use session_laws::Peer;
-use std::alloc::Global;
+use poa_shared::{Aid, Seat};
 use std::sync::Wait;
 
 /// How the serving of a door ended.
@@ -27,32 +26,29 @@ pub struct Attendance {
 /// Serves link after link, until the door ends or fails, or the run isn't running: that is looked at where nobody is at
 /// the door, and after each session.
 pub fn attend<R: Wait, A: Acceptor>(
-    rt: &R,
-    alloc: Global,
-    shared: &Shared,
+    reception: &Reception<'_, R>,
     seat: &mut Seat,
     aid: &mut Aid,
     door: &mut A,
-    peer: Peer,
 ) -> Attendance
-    requires seat { IsIdle shared.now seat.old }
-    requires aid { IsReady shared.now aid.old.seat }
+    requires seat { IsIdle reception.now.shared.now seat.old }
+    requires aid { IsReady reception.now.shared.now aid.old.seat }
     requires fresh { (view seat.old).mine ≡ [] }
-    ensures seat { IsIdle shared.now seat.new }
-    ensures ready { IsReady shared.now aid.new.seat }
+    ensures seat { IsIdle reception.now.shared.now seat.new }
+    ensures ready { IsReady reception.now.shared.now aid.new.seat }
     ensures aids { Aids aid.old.seat aid.new.seat }
     ensures served { (g : Givens) → (view seat.old).givens ≡ Some g
-        → DoorServed g peer A.Link.shown A.standing A.faults A.ends (view seat.old) (view seat.new)
-        door.old door.new result.refused result.end }
+        → DoorServed g reception.now.peer A.Link.shown A.standing A.faults A.ends (view seat.old)
+        (view seat.new) door.old door.new result.refused result.end }
 {
     let mut refused = None;
-    for _ in rt.forever() {
-        let received = receive(rt, alloc, shared, seat, aid, door, peer);
+    for _ in reception.rt.forever() {
+        let received = receive(reception, seat, aid, door);
         refused = noted(refused, &received);
         if let Some(end) = ending(&received) {
             return Attendance { refused, end };
         }
-        let phase = shared.phase(rt, seat);
+        let phase = reception.shared.phase(reception.rt, seat);
         if let Some(end) = stop_in(phase) {
             return Attendance { refused, end };
         }
@@ -83,24 +79,22 @@ fn stop_in(phase: Phase) -> Option<PieceEnd>
 
 /// The whole of a door's piece.
 pub fn serve_door<R: Wait, A: Acceptor>(
-    rt: &R,
-    alloc: Global,
-    shared: &Shared,
+    reception: &Reception<'_, R>,
     mut seat: Seat,
     mut aid: Aid,
     mut door: A,
-    peer: Peer,
 ) -> Ran<A>
-    requires seat { IsIdle shared.now seat }
-    requires aid { IsReady shared.now aid.seat }
+    requires seat { IsIdle reception.now.shared.now seat }
+    requires aid { IsReady reception.now.shared.now aid.seat }
     requires fresh { (view seat).mine ≡ [] }
-    ensures seat { IsIdle shared.now result.seat }
-    ensures ready { IsReady shared.now result.aid.seat }
+    ensures seat { IsIdle reception.now.shared.now result.seat }
+    ensures ready { IsReady reception.now.shared.now result.aid.seat }
     ensures aids { Aids aid.seat result.aid.seat }
     ensures served { (g : Givens) → (view seat).givens ≡ Some g
-        → DoorKept g peer A.Link.shown A.standing A.faults A.ends door (view seat) result }
+        → DoorKept g reception.now.peer A.Link.shown A.standing A.faults A.ends door (view seat)
+        result }
 {
-    let attendance = attend(rt, alloc, shared, &mut seat, &mut aid, &mut door, peer);
+    let attendance = attend(reception, &mut seat, &mut aid, &mut door);
     Ran {
         seat,
         aid,

@@ -1,6 +1,7 @@
 //! A piece of the running server.
 use crate::attending::serve_door;
 use crate::ran::{PieceEnd, Ran};
+use crate::reception::Reception;
 use crate::task::Task;
 use outside::{Acceptor, Gate, Job};
 use poa_shared::{Aid, Seat, Shared, work};
@@ -45,16 +46,24 @@ impl<R: Wait + Copy, A: Acceptor, G: Gate + Drop> Job for Piece<R, A, G> {
             task,
         } = self;
         match task {
-            Task::Lane(door) => serve_door(&rt, alloc, &shared, seat, aid, door, Peer::Client),
-            Task::Admin(door) => serve_door(
-                &rt,
-                alloc,
-                &shared,
-                seat,
-                aid,
-                door,
-                Peer::Administrator,
-            ),
+            Task::Lane(door) => {
+                let reception = Reception {
+                    rt: &rt,
+                    alloc,
+                    shared: &shared,
+                    peer: Peer::Client,
+                };
+                serve_door(&reception, seat, aid, door)
+            }
+            Task::Admin(door) => {
+                let reception = Reception {
+                    rt: &rt,
+                    alloc,
+                    shared: &shared,
+                    peer: Peer::Administrator,
+                };
+                serve_door(&reception, seat, aid, door)
+            }
             Task::Worker { worker, gate } => {
                 let end = work(&rt, &shared, &mut seat, worker, &*gate);
                 Ran {

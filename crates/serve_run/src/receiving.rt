@@ -12,34 +12,32 @@ ghost use Rattle.serve_run.specs.Visits.{Visit};
 ghost use Rattle.serve_run.specs.Doors.{AsReceived, Attending};
 
 use crate::received::Received;
+use crate::reception::Reception;
 use outside::{Acceptor, Door, Link};
 use poa_base::Session;
 use poa_session::{serve_admin, serve_link};
-use poa_shared::{Aid, Seat, Shared};
+use poa_shared::{Aid, Seat};
 use session_laws::Peer;
-use std::alloc::Global;
 use std::sync::Wait;
 
 /// Serves one link, as its peer is. The aid helps with a client's.
 fn serve<R: Wait, L: Link>(
-    rt: &R,
-    alloc: Global,
-    shared: &Shared,
+    reception: &Reception<'_, R>,
     seat: &mut Seat,
     aid: &mut Aid,
     link: &mut L,
-    peer: Peer,
 ) -> Session
-    requires seat { IsIdle shared.now seat.old }
-    requires aid { IsReady shared.now aid.old.seat }
-    ensures seat { IsIdle shared.now seat.new }
-    ensures ready { IsReady shared.now aid.new.seat }
+    requires seat { IsIdle reception.now.shared.now seat.old }
+    requires aid { IsReady reception.now.shared.now aid.old.seat }
+    ensures seat { IsIdle reception.now.shared.now seat.new }
+    ensures ready { IsReady reception.now.shared.now aid.new.seat }
     ensures aids { Aids aid.old.seat aid.new.seat }
     ensures served { (g : Givens) → (view seat.old).givens ≡ Some g
-        → Served g peer (view seat.old) (view seat.new) (L.shown link.old) (L.shown link.new)
-        result }
+        → Served g reception.now.peer (view seat.old) (view seat.new) (L.shown link.old)
+        (L.shown link.new) result }
 {
-    match peer {
+    let (rt, alloc, shared) = (reception.rt, reception.alloc, reception.shared);
+    match reception.peer {
         Peer::Client => serve_link(rt, alloc, shared, seat, aid, link),
         Peer::Administrator => serve_admin(rt, alloc, shared, seat, link),
     }
@@ -47,30 +45,27 @@ fn serve<R: Wait, L: Link>(
 
 /// Asks the door for its next link, serves that, and gives it back with its session.
 pub fn receive<R: Wait, A: Acceptor>(
-    rt: &R,
-    alloc: Global,
-    shared: &Shared,
+    reception: &Reception<'_, R>,
     seat: &mut Seat,
     aid: &mut Aid,
     door: &mut A,
-    peer: Peer,
 ) -> Received
-    requires seat { IsIdle shared.now seat.old }
-    requires aid { IsReady shared.now aid.old.seat }
-    ensures seat { IsIdle shared.now seat.new }
-    ensures ready { IsReady shared.now aid.new.seat }
+    requires seat { IsIdle reception.now.shared.now seat.old }
+    requires aid { IsReady reception.now.shared.now aid.old.seat }
+    ensures seat { IsIdle reception.now.shared.now seat.new }
+    ensures ready { IsReady reception.now.shared.now aid.new.seat }
     ensures aids { Aids aid.old.seat aid.new.seat }
     ensures received { (g : Givens) (first : View Givens Entry) (closed : A)
         (visits : List (Visit A.Link)) → first.givens ≡ Some g
-        → Attending g peer A.Link.shown A.standing A.faults A.ends first closed visits
-        (view seat.old) door.old
-        → AsReceived g peer A.Link.shown A.standing A.faults A.ends first closed visits result
-        (view seat.new) door.new }
+        → Attending g reception.now.peer A.Link.shown A.standing A.faults A.ends first closed
+        visits (view seat.old) door.old
+        → AsReceived g reception.now.peer A.Link.shown A.standing A.faults A.ends first closed
+        visits result (view seat.new) door.new }
     ensures nobody { HasCause (A.quiets door.old) (A.quiets door.new) (result ≡ Received.Nothing) }
 {
     match door.next() {
         Door::Link(mut link) => {
-            let session = serve(rt, alloc, shared, seat, aid, &mut link, peer);
+            let session = serve(reception, seat, aid, &mut link);
             door.give_back(link, session);
             Received::Served(session)
         }

@@ -9,7 +9,9 @@ ghost use Rattle.serve_run.specs.Running.{IsServedRun};
 ghost use Rattle.serve_run.specs.Threads.{CountsThreads};
 
 use crate::doors::Doors;
+use crate::means::Means;
 use crate::outcome::Outcome;
+use crate::server::Server;
 use crate::working::serve_workers;
 use history_laws::opening_laws::lifetimes_are_kept;
 use outside::{Acceptor, Gate, ThreadCrew};
@@ -55,13 +57,11 @@ fn open<R: Wait>(rt: &R, alloc: Global, core: Core) -> Option<(Arc<Shared, Globa
 /// Serves clients and administrators on a core that hasn't begun, by workers in threads, until each door has ended, the run
 /// is full, or it is shut down. Then all is brought to its end, and the core comes back with its whole journal.
 pub fn serve_core<T, R, A, G>(
-    rt: &R,
-    alloc: Global,
+    means: &Means<'_, R, G>,
     core: Core,
     doors: Doors<A>,
     workers: u32,
     crew: &mut ThreadCrew<T>,
-    gate: &Arc<G, Global>,
 ) -> Finished<A>
 where
     T: Threads + Wait + Drop,
@@ -80,14 +80,20 @@ where
     ensures threads { IfSome result.run
         (λ run. CountsThreads crew.old.faults crew.new.faults run.outcome.short) }
 {
-    let Some((shared, mut seat)) = open(rt, alloc, core) else {
+    let Some((shared, mut seat)) = open(means.rt, means.alloc, core) else {
         return Finished { doors, run: None };
     };
+    let server = Server {
+        rt: means.rt,
+        alloc: means.alloc,
+        gate: means.gate,
+        shared: &shared,
+    };
     let (doors, outcome) = serve_workers::<T, R, A, G>(
-        rt, alloc, &shared, &mut seat, crew, gate, workers, workers, doors,
+        &server, &mut seat, crew, workers, workers, doors,
     );
-    shared.phase(rt, &mut seat);
-    let core = shared.finish(rt, seat);
+    shared.phase(means.rt, &mut seat);
+    let core = shared.finish(means.rt, seat);
     lifetimes_are_kept();
     sessions_stay();
     Finished {

@@ -1,5 +1,5 @@
 //! The end of a run is called for.
-ghost use Rattle.std.specs.Prelude.{◌≡◌, ◌≤◌, ◌<◌, false, Some};
+ghost use Rattle.std.specs.Prelude.{◌≡◌, ◌<◌, false, Some};
 ghost use Rattle.poa_shared.specs.Seats.{IsIdle};
 ghost use Rattle.poa_shared.specs.Seen.{HoldsConnection};
 ghost use Rattle.poa_history.specs.declared.givens.Givens.{Givens};
@@ -7,18 +7,12 @@ ghost use Rattle.seat_lock.specs.Seats.{view};
 ghost use Rattle.serve_run.specs.Shutting.{Says};
 ghost use Rattle.serve_run.specs.Starting.{IsSameSeat};
 
+use crate::staff::Staff;
 use poa_base::{Call, Command};
 use poa_core::ArriveFault;
 use poa_history::Phase;
 use poa_shared::{Seat, Shared};
 use std::sync::Wait;
-
-/// The workers that were started: from this one to before that one.
-#[derive(Clone, Copy, Drop)]
-pub struct Staff {
-    pub first: u32,
-    pub end: u32,
-}
 
 /// How many bytes the line `shutdown` has.
 const SHUTDOWN_BYTES: u64 = 8;
@@ -26,7 +20,6 @@ const SHUTDOWN_BYTES: u64 = 8;
 /// Gives the run up in the name of each worker that was started, and wakes all.
 fn give_up<R: Wait>(rt: &R, shared: &Shared, seat: &mut Seat, staff: Staff)
     requires seat { IsIdle shared.now seat.old }
-    requires staff { staff.end ≤ 16 }
     ensures seat { IsIdle shared.now seat.new }
     ensures same { (g : Givens) → (view seat.old).givens ≡ Some g
         → IsSameSeat (view seat.old) (view seat.new) }
@@ -42,7 +35,6 @@ fn give_up<R: Wait>(rt: &R, shared: &Shared, seat: &mut Seat, staff: Staff)
 pub fn shut_down<R: Wait>(rt: &R, shared: &Shared, seat: &mut Seat, staff: Staff) -> bool
     requires seat { IsIdle shared.now seat.old }
     requires conn { HoldsConnection (view seat.old) 0 }
-    requires staff { staff.end ≤ 16 }
     ensures seat { IsIdle shared.now seat.new }
     ensures same { (g : Givens) → (view seat.old).givens ≡ Some g
         → IsSameSeat (view seat.old) (view seat.new) }

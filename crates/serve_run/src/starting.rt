@@ -10,10 +10,10 @@ ghost use Rattle.serve_run.specs.Threads.{CountsThreads};
 
 use crate::outcome::Want;
 use crate::piece::Piece;
+use crate::server::Server;
 use crate::task::Task;
 use outside::{Acceptor, Gate, ThreadCrew, Ticket};
-use poa_shared::{Aid, Seat, Shared};
-use std::alloc::Global;
+use poa_shared::{Aid, Seat};
 use std::sync::{Arc, Wait};
 use std::thread::Threads;
 
@@ -28,9 +28,7 @@ pub struct Unstarted<A, G> {
 /// Starts a piece with this task and this aid on a new seat. Where it can't be started, both are handed back, and its seat is
 /// joined.
 pub fn start<T, R, A, G>(
-    rt: &R,
-    alloc: Global,
-    shared: &Arc<Shared, Global>,
+    server: &Server<'_, R, G>,
     seat: &mut Seat,
     crew: &mut ThreadCrew<T>,
     task: Task<A, G>,
@@ -42,16 +40,16 @@ where
     A: Acceptor + Send + Drop + 'static,
     A::Link: Send + 'static,
     G: Gate + Send + Sync + Drop + 'static,
-    requires seat { IsIdle (arc_value shared.now) seat.old }
+    requires seat { IsIdle (arc_value server.now.shared.now) seat.old }
     requires room { 0 < (view seat.old).room }
     requires numbered { IsNumbered task }
-    requires aid { IsReady (arc_value shared.now) aid.seat }
-    ensures seat { IsIdle (arc_value shared.now) seat.new }
+    requires aid { IsReady (arc_value server.now.shared.now) aid.seat }
+    ensures seat { IsIdle (arc_value server.now.shared.now) seat.new }
     ensures kept { IsKept (view seat.old) (view seat.new) }
     ensures taken { OnOk result ((view seat.new).room + 1 ≡ (view seat.old).room) }
     ensures same { OnErr result ((view seat.new).room ≡ (view seat.old).room) }
     ensures started { IfOk result
-        (λ ticket. IsStarted (arc_value shared.now) task aid.seat (view seat.old)
+        (λ ticket. IsStarted (arc_value server.now.shared.now) task aid.seat (view seat.old)
         ticket.promise.job.value) }
     ensures back { IfErr result (λ it. it.task ≡ task) }
     ensures aid { IfErr result (λ it. it.aid ≡ aid) }
@@ -59,11 +57,11 @@ where
     ensures threads { IfErr result
         (λ it. CountsThreads crew.old.faults crew.new.faults (Some it.want)) }
 {
-    let own = shared.split(seat);
-    let shared_too = match Arc::try_clone(shared) {
+    let own = server.shared.split(seat);
+    let shared_too = match Arc::try_clone(server.shared) {
         Ok(too) => too,
         Err(_) => {
-            shared.join(seat, own);
+            server.shared.join(seat, own);
             return Err(Unstarted {
                 task,
                 aid,
@@ -72,8 +70,8 @@ where
         }
     };
     let piece = Piece {
-        rt: *rt,
-        alloc,
+        rt: *server.rt,
+        alloc: server.alloc,
         shared: shared_too,
         seat: own,
         aid,
@@ -88,7 +86,7 @@ where
                 task,
                 ..
             } = piece;
-            shared.join(seat, own);
+            server.shared.join(seat, own);
             Err(Unstarted {
                 task,
                 aid,

@@ -5,17 +5,17 @@ use Rattle.poa_session.proofs.conversing.converse.Goals as goal
 
 pub returns-in_default-clause-converses : goal.returns-in_default-clause-converses
 returns-in_default-clause-converses g c = λ givens given.
-    sits_lost givens c.args.peer c.args.conn (view c.args.seat.now) (g.L.Link.shown c.args.link.now) (view c.args.seat.now)
+    sits_lost givens c.args.conn.now.peer c.args.conn.now.number (view c.args.seat.now) (g.L.Link.shown c.args.link.now) (view c.args.seat.now)
     (g.L.Link.shown c.args.link.now) c.new-input.result
-    (sits_new givens c.args.peer c.args.conn (view c.args.seat.now)
+    (sits_new givens c.args.conn.now.peer c.args.conn.now.number (view c.args.seat.now)
     (g.L.Link.shown c.args.link.now) c.new-input.result c.new-input.ensures.expects c.new-input.ensures.taken
     c.new-input.ensures.first)
 
 pub returns-then-is_err-clause-converses : goal.returns-then-is_err-clause-converses
 returns-then-is_err-clause-converses g c = λ givens given.
-    sits_lost givens c.args.peer c.args.conn (view c.args.seat.now) (g.L.Link.shown c.args.link.now) (view c.args.seat.now)
+    sits_lost givens c.args.conn.now.peer c.args.conn.now.number (view c.args.seat.now) (g.L.Link.shown c.args.link.now) (view c.args.seat.now)
     (g.L.Link.shown c.args.link.now) c.new-input.result
-    (sits_new givens c.args.peer c.args.conn (view c.args.seat.now)
+    (sits_new givens c.args.conn.now.peer c.args.conn.now.number (view c.args.seat.now)
     (g.L.Link.shown c.args.link.now) c.new-input.result c.new-input.ensures.expects c.new-input.ensures.taken
     c.new-input.ensures.first)
 

@@ -15,7 +15,7 @@ loop-init g c = record {
   ready = c.requires.aid;
   aids = aids_none c.args.aid.now.seat;
   conn = c.requires.conn;
-  sits = λ givens given. sits_new givens c.args.peer c.args.conn (view c.args.seat.now)
+  sits = λ givens given. sits_new givens c.args.conn.now.peer c.args.conn.now.number (view c.args.seat.now)
       (g.L.Link.shown c.args.link.now) c.args.input.now c.requires.fresh c.requires.taken c.requires.first;
   writes = omega arith;
   room = c.requires.room;
@@ -30,9 +30,9 @@ loop-preserved g c = record {
   conn = c.in-On.ensures.conn;
   sits = λ givens given.
       (let before = c.loop.invariant.sits givens given in
-      sits_on givens c.args.peer c.args.conn (view c.args.seat.now) (g.L.Link.shown c.args.link.now) (view c.loop.seat)
+      sits_on givens c.args.conn.now.peer c.args.conn.now.number (view c.args.seat.now) (g.L.Link.shown c.args.link.now) (view c.loop.seat)
       (g.L.Link.shown c.loop.link) c.loop.input before (view c.round.new.seat) (g.L.Link.shown c.round.new.link) c.round.new.input
-      (c.in-On.ensures.rounds givens (before.adds.given ∙ given) c.args.peer));
+      (c.in-On.ensures.rounds givens (before.adds.given ∙ given) c.args.conn.now.peer));
   writes = (let was = c.loop.invariant.writes in let more = c.in-On.ensures.written.later in omega (arith, was, more));
   room = subst (λ n. 0 < n) (sym c.in-On.ensures.room) c.loop.invariant.room;
 }
@@ -40,25 +40,25 @@ loop-preserved g c = record {
 pub returns-in-Ends-clause-converses : goal.returns-in-Ends-clause-converses
 returns-in-Ends-clause-converses g c = λ givens given.
     (let before = c.loop.invariant.sits givens given in
-    let went = c.in-Ends.ensures.rounds givens (before.adds.given ∙ given) c.args.peer in
-    sits_ended givens c.args.peer c.args.conn (view c.args.seat.now) (g.L.Link.shown c.args.link.now) (view c.loop.seat)
+    let went = c.in-Ends.ensures.rounds givens (before.adds.given ∙ given) c.args.conn.now.peer in
+    sits_ended givens c.args.conn.now.peer c.args.conn.now.number (view c.args.seat.now) (g.L.Link.shown c.args.link.now) (view c.loop.seat)
     (g.L.Link.shown c.loop.link) c.loop.input before (view c.round.new.seat) (g.L.Link.shown c.round.new.link) c.round.new.input
     c.in-Ends.end c.settle.result (view c.settle.new.seat) (g.L.Link.shown c.settle.new.link) went
-    (subst (λ i. Settles givens c.args.peer c.args.conn (view c.round.new.seat) (g.L.Link.shown c.round.new.link) i (view c.settle.new.seat)
+    (subst (λ i. Settles givens c.args.conn.now.peer c.args.conn.now.number (view c.round.new.seat) (g.L.Link.shown c.round.new.link) i (view c.settle.new.seat)
     (g.L.Link.shown c.settle.new.link) c.in-Ends.end c.settle.result) c.replace-read.ensures.value
     (c.settle.ensures.settles givens (went.adds.given ∙ (before.adds.given ∙ given)))))
 
 pub returns-in-Broke-clause-converses : goal.returns-in-Broke-clause-converses
 returns-in-Broke-clause-converses g c = λ givens given.
     (let before = c.loop.invariant.sits givens given in
-    sits_broken givens c.args.peer c.args.conn (view c.args.seat.now) (g.L.Link.shown c.args.link.now) (view c.loop.seat)
+    sits_broken givens c.args.conn.now.peer c.args.conn.now.number (view c.args.seat.now) (g.L.Link.shown c.args.link.now) (view c.loop.seat)
     (g.L.Link.shown c.loop.link) c.loop.input before (view c.round.new.seat) (g.L.Link.shown c.round.new.link) c.round.new.input
-    c.in-Broke.end (c.in-Broke.ensures.rounds givens (before.adds.given ∙ given) c.args.peer))
+    c.in-Broke.end (c.in-Broke.ensures.rounds givens (before.adds.given ∙ given) c.args.conn.now.peer))
 
 pub returns-in-Ends-clause-read : goal.returns-in-Ends-clause-read
 returns-in-Ends-clause-read g c = λ givens given.
     (let before = c.loop.invariant.sits givens given in
-    let went = c.in-Ends.ensures.rounds givens (before.adds.given ∙ given) c.args.peer in
+    let went = c.in-Ends.ensures.rounds givens (before.adds.given ∙ given) c.args.conn.now.peer in
     let cause = c.in-Ends.ensures.read givens (before.adds.given ∙ given) in
     let moved = (c.settle.ensures.settles givens (went.adds.given ∙ (before.adds.given ∙ given))).moved in
     record {
@@ -95,12 +95,12 @@ pub round-requires-clause-said : goal.round-requires-clause-said
 round-requires-clause-said g c =
     (let said = c.requires.said in
     let before = c.loop.invariant.sits said.givens said.given in
-    said_on c.args.conn (view c.args.seat.now) (view c.loop.seat) said before.calls before.replies before.adds before.said)
+    said_on c.args.conn.now.number (view c.args.seat.now) (view c.loop.seat) said before.calls before.replies before.adds before.said)
 
 pub settle-requires-clause-said : goal.settle-requires-clause-said
 settle-requires-clause-said g c =
     (let said = c.requires.said in
     let before = c.loop.invariant.sits said.givens said.given in
-    let went = c.in-Ends.ensures.rounds said.givens (before.adds.given ∙ said.given) c.args.peer in
-    said_twice c.args.conn (view c.args.seat.now) (view c.loop.seat) (view c.round.new.seat) said before.calls went.calls before.replies went.due
+    let went = c.in-Ends.ensures.rounds said.givens (before.adds.given ∙ said.given) c.args.conn.now.peer in
+    said_twice c.args.conn.now.number (view c.args.seat.now) (view c.loop.seat) (view c.round.new.seat) said before.calls went.calls before.replies went.due
     before.adds before.said went.adds went.said)

@@ -12,7 +12,7 @@ returns-in-Err-clause-first g c = λ peer text knows. c.in-Err.ensures.first pee
 
 pub returns-in-Err-clause-exchanges : goal.returns-in-Err-clause-exchanges
 returns-in-Err-clause-exchanges g c = λ givens given peer.
-    exchanges_ended givens peer c.args.conn (view c.args.seat.now) c.args.input.now (view c.hold.new.seat) c.hold.new.input
+    exchanges_ended givens peer c.args.conn.now.number (view c.args.seat.now) c.args.input.now (view c.hold.new.seat) c.hold.new.input
     c.clear.new.self.given.items c.hold.new.given.items c.clear.ensures.given c.clear.new.self.bytes.items c.in-Err.flow
     (c.in-Err.ensures.holds givens given peer c.args.input.now (c.next-first.ensures.told, c.next-first.ensures.taken))
 
@@ -24,7 +24,7 @@ returns-in-Ok-spell-clause-first g c = λ peer text knows. c.in-Ok.ensures.first
 
 pub returns-in-Ok-spell-clause-exchanges : goal.returns-in-Ok-spell-clause-exchanges
 returns-in-Ok-spell-clause-exchanges g c = λ givens given peer.
-    exchanges_spelled givens peer c.args.conn (view c.args.seat.now) c.args.input.now (view c.hold.new.seat) c.hold.new.input
+    exchanges_spelled givens peer c.args.conn.now.number (view c.args.seat.now) c.args.input.now (view c.hold.new.seat) c.hold.new.input
     c.clear.new.self.given.items c.hold.new.given.items c.clear.ensures.given c.spell.new.self.bytes.items c.in-Ok.exchanged
     (c.in-Ok.ensures.holds givens given peer c.args.input.now (c.next-first.ensures.told, c.next-first.ensures.taken))
     c.clear.new.self.bytes.items c.clear.ensures.bytes c.in-Ok-spell.ensures
@@ -34,6 +34,6 @@ returns-in-Err-spell-clause-first g c = λ peer text knows. c.in-Ok.ensures.firs
 
 pub returns-in-Err-spell-clause-exchanges : goal.returns-in-Err-spell-clause-exchanges
 returns-in-Err-spell-clause-exchanges g c = λ givens given peer.
-    exchanges_unspelled givens peer c.args.conn (view c.args.seat.now) c.args.input.now (view c.hold.new.seat) c.hold.new.input
+    exchanges_unspelled givens peer c.args.conn.now.number (view c.args.seat.now) c.args.input.now (view c.hold.new.seat) c.hold.new.input
     c.clear.new.self.given.items c.hold.new.given.items c.clear.ensures.given c.spell.new.self.bytes.items c.in-Ok.exchanged c.in-Err-spell.field-0
     (c.in-Ok.ensures.holds givens given peer c.args.input.now (c.next-first.ensures.told, c.next-first.ensures.taken))

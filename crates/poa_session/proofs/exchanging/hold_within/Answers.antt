@@ -8,7 +8,7 @@ use Rattle.poa_session.proofs.Saying.{said_twice}
 use Rattle.poa_session.proofs.exchanging.hold_within.Goals as goal
 
 pub returns-in-Some-clause-conn : goal.returns-in-Some-clause-conn
-returns-in-Some-clause-conn g c = c.in-Some.ensures.holds c.args.conn c.requires.conn
+returns-in-Some-clause-conn g c = c.in-Some.ensures.holds c.args.conn.now.number c.requires.conn
 
 pub returns-in-Some-clause-aids : goal.returns-in-Some-clause-aids
 returns-in-Some-clause-aids g c = aids_none c.args.aid.now.seat
@@ -17,7 +17,7 @@ pub returns-in-Some-clause-holds : goal.returns-in-Some-clause-holds
 returns-in-Some-clause-holds g c = λ givens given peer i next. inl (record { looked = c.in-Some.ensures.looks givens given })
 
 pub listen_within-requires-clause-conn : goal.listen_within-requires-clause-conn
-listen_within-requires-clause-conn g c = c.look_within.ensures.holds c.args.conn c.requires.conn
+listen_within-requires-clause-conn g c = c.look_within.ensures.holds c.args.conn.now.number c.requires.conn
 
 pub returns-in-Err-clause-aids : goal.returns-in-Err-clause-aids
 returns-in-Err-clause-aids g c = aids_none c.args.aid.now.seat
@@ -62,6 +62,6 @@ gather_within-requires-clause-said g c =
     (let said = c.requires.said in
     let looked = c.in_default.ensures.looks said.givens said.given in
     let listened = c.in-Ok.ensures.listens said.givens (looked.turns.given ∙ said.given) Client c.requires.next.0 c.requires.next.1 in
-    said_twice c.args.conn (view c.args.seat.now) (view c.look_within.new.seat) (view c.listen_within.new.seat) said [] listened.calls [] []
-    (adds_none said.givens c.args.conn (view c.args.seat.now) (past (view c.look_within.new.seat)) (view c.look_within.new.seat) looked.turns
+    said_twice c.args.conn.now.number (view c.args.seat.now) (view c.look_within.new.seat) (view c.listen_within.new.seat) said [] listened.calls [] []
+    (adds_none said.givens c.args.conn.now.number (view c.args.seat.now) (past (view c.look_within.new.seat)) (view c.look_within.new.seat) looked.turns
     c.requires.conn.owns refl) tt listened.adds listened.said)

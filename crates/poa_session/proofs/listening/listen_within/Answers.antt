@@ -25,9 +25,9 @@ loop-preserved g c = record {
   conn = c.hear-progress.ensures.conn;
   first = λ peer text knows. c.hear-progress.ensures.first peer text (c.loop.invariant.first peer text knows);
   hears = λ givens given peer i next.
-      (let before = subst (λ p. Hears givens peer c.args.conn (view c.args.seat.now) i (view c.loop.seat) c.loop.input p) c.in-On.is
+      (let before = subst (λ p. Hears givens peer c.args.conn.now.number (view c.args.seat.now) i (view c.loop.seat) c.loop.input p) c.in-On.is
       (c.loop.invariant.hears givens given peer i next) in
-      hears_then givens peer c.args.conn (view c.args.seat.now) (view c.loop.seat)
+      hears_then givens peer c.args.conn.now.number (view c.args.seat.now) (view c.loop.seat)
       (view c.hear-progress.new.seat) i c.loop.input c.hear-progress.new.input c.hear-progress.result before
       (c.hear-progress.ensures.hears givens (before.adds.given ∙ given) peer));
   unwritten = c.hear-progress.ensures.unwritten;
@@ -35,12 +35,12 @@ loop-preserved g c = record {
 
 pub returns-in-Waits-clause-listens : goal.returns-in-Waits-clause-listens
 returns-in-Waits-clause-listens g c = λ givens given peer i next.
-    (let all = subst (λ p. Hears givens peer c.args.conn (view c.args.seat.now) i (view c.loop.seat) c.loop.input p) c.in-Waits.is
+    (let all = subst (λ p. Hears givens peer c.args.conn.now.number (view c.args.seat.now) i (view c.loop.seat) c.loop.input p) c.in-Waits.is
     (c.loop.invariant.hears givens given peer i next) in
     record { calls = all.calls; said = all.said; adds = all.adds; heard = all.heard; taken = all.taken })
 
 pub returns-in-Ends-clause-listens : goal.returns-in-Ends-clause-listens
 returns-in-Ends-clause-listens g c = λ givens given peer i next.
-    (let all = subst (λ p. Hears givens peer c.args.conn (view c.args.seat.now) i (view c.loop.seat) c.loop.input p) c.in-Ends.is
+    (let all = subst (λ p. Hears givens peer c.args.conn.now.number (view c.args.seat.now) i (view c.loop.seat) c.loop.input p) c.in-Ends.is
     (c.loop.invariant.hears givens given peer i next) in
     record { calls = all.calls; said = all.said; adds = all.adds; heard = all.heard; taken = all.taken })

@@ -13,10 +13,10 @@ use Rattle.poa_session.proofs.listening.listen_within.Given as goal
 abbrev pub invariant-loop : goal.invariant-loop
 invariant-loop g l = record {
   ends : (goal.iterator-loop g).can_next l.iterator' × (goal.iterator-loop g).is_finite l.iterator';
-  seat : IsIdle l.shared l.seat;
-  conn : HoldsConnection (view l.seat) l.conn;
+  seat : IsIdle l.conn.shared.now l.seat;
+  conn : HoldsConnection (view l.seat) l.conn.number;
   first : (peer : Peer) (text : List ℕ) → KnowsFirst peer l.fn.input.ear text → KnowsFirst peer l.input.ear text;
   hears : (givens : Givens) → (view l.fn.seat).givens ≡ Some givens → (peer : Peer) (i : Intake) → IsNextTold i l.fn.first l.fn.input
-      → Hears givens peer l.conn (view l.fn.seat) i (view l.seat) l.input l.progress;
+      → Hears givens peer l.conn.number (view l.fn.seat) i (view l.seat) l.input l.progress;
   unwritten : (l.progress ≢ Ends end.WriteFault) × (l.progress ≢ Ends end.ReadFault);
 }

@@ -9,20 +9,20 @@ use Rattle.poa_session.proofs.rounds.round.Goals as goal
 
 pub returns-in-Err-clause-rounds : goal.returns-in-Err-clause-rounds
 returns-in-Err-clause-rounds g c = λ givens given peer.
-    exchange_over givens peer c.args.conn (view c.args.seat.now) (g.L.Link.shown c.args.link.now) c.args.input.now c.requires.conn.owns
+    exchange_over givens peer c.args.conn.now.number (view c.args.seat.now) (g.L.Link.shown c.args.link.now) c.args.input.now c.requires.conn.owns
     (view c.exchange.new.seat) c.exchange.new.input (c.in-Err.ensures.first peer) c.exchange.new.replies.bytes.items
     c.in-Err.flow (c.in-Err.ensures.exchanges givens given peer)
 
 pub returns-then-not-write_all-clause-rounds : goal.returns-then-not-write_all-clause-rounds
 returns-then-not-write_all-clause-rounds g c = λ givens given peer.
-    exchange_cut givens peer c.args.conn (view c.args.seat.now) (g.L.Link.shown c.args.link.now) c.args.input.now c.requires.conn.owns
+    exchange_cut givens peer c.args.conn.now.number (view c.args.seat.now) (g.L.Link.shown c.args.link.now) c.args.input.now c.requires.conn.owns
     (view c.exchange.new.seat) c.exchange.new.input (c.in-Ok.ensures.first peer) c.exchange.new.replies.bytes.items
     c.in-Ok.exchanged (c.in-Ok.ensures.exchanges givens given peer) c.deref.result.now c.deref.ensures.value
     (g.L.Link.shown c.write_all.new.link) c.if-not-write_all.ensures.writes
 
 pub returns-in-Some-clause-rounds : goal.returns-in-Some-clause-rounds
 returns-in-Some-clause-rounds g c = λ givens given peer.
-    exchange_ended givens peer c.args.conn (view c.args.seat.now) (g.L.Link.shown c.args.link.now) c.args.input.now c.requires.conn.owns
+    exchange_ended givens peer c.args.conn.now.number (view c.args.seat.now) (g.L.Link.shown c.args.link.now) c.args.input.now c.requires.conn.owns
     (view c.exchange.new.seat) c.exchange.new.input (c.in-Ok.ensures.first peer) c.exchange.new.replies.bytes.items
     c.in-Ok.exchanged (c.in-Ok.ensures.exchanges givens given peer) c.deref.result.now c.deref.ensures.value
     (g.L.Link.shown c.write_all.new.link) c.if-not-write_all.ensures.writes
@@ -30,7 +30,7 @@ returns-in-Some-clause-rounds g c = λ givens given peer.
 
 pub returns-in-None-clause-rounds : goal.returns-in-None-clause-rounds
 returns-in-None-clause-rounds g c = λ givens given peer.
-    exchange_on givens peer c.args.conn (view c.args.seat.now) (g.L.Link.shown c.args.link.now) c.args.input.now c.requires.conn.owns
+    exchange_on givens peer c.args.conn.now.number (view c.args.seat.now) (g.L.Link.shown c.args.link.now) c.args.input.now c.requires.conn.owns
     (view c.exchange.new.seat) c.exchange.new.input (c.in-Ok.ensures.first peer) c.exchange.new.replies.bytes.items
     c.in-Ok.exchanged (c.in-Ok.ensures.exchanges givens given peer) c.deref.result.now c.deref.ensures.value
     (g.L.Link.shown c.write_all.new.link) c.if-not-write_all.ensures.writes

@@ -11,13 +11,13 @@ loop-init g c = record {
   ready = c.requires.aid;
   aids = aids_none c.args.aid.now.seat;
   rounds =
-      λ k given. rounds_none k c.args.peer g.A.Link.Link.shown g.A.Acceptor.standing g.A.Acceptor.faults g.A.Acceptor.ends
+      λ k given. rounds_none k c.args.reception.now.peer g.A.Link.Link.shown g.A.Acceptor.standing g.A.Acceptor.faults g.A.Acceptor.ends
       (view c.args.seat.now) c.args.door.now c.requires.fresh;
 }
 
 pub returns-in-Some-ending-clause-served : goal.returns-in-Some-ending-clause-served
 returns-in-Some-ending-clause-served g c = λ k given.
-    rounds_end k c.args.peer g.A.Link.Link.shown g.A.Acceptor.standing g.A.Acceptor.faults g.A.Acceptor.ends (view c.args.seat.now) c.args.door.now (view c.loop.seat)
+    rounds_end k c.args.reception.now.peer g.A.Link.Link.shown g.A.Acceptor.standing g.A.Acceptor.faults g.A.Acceptor.ends (view c.args.seat.now) c.args.door.now (view c.loop.seat)
     (view c.receive-received.new.seat) c.loop.door c.receive-received.new.door c.loop.refused c.noted-refused.result c.receive-received.result
     c.in-Some-ending.end
     (c.loop.invariant.rounds k given)
@@ -26,9 +26,9 @@ returns-in-Some-ending-clause-served g c = λ k given.
 
 pub returns-in-Some-stop_in-clause-served : goal.returns-in-Some-stop_in-clause-served
 returns-in-Some-stop_in-clause-served g c = λ k given.
-    rounds_stop k c.args.peer g.A.Link.Link.shown g.A.Acceptor.standing g.A.Acceptor.faults g.A.Acceptor.ends (view c.args.seat.now) c.args.door.now
+    rounds_stop k c.args.reception.now.peer g.A.Link.Link.shown g.A.Acceptor.standing g.A.Acceptor.faults g.A.Acceptor.ends (view c.args.seat.now) c.args.door.now
     (view c.receive-received.new.seat) (view c.phase-phase.new.seat) c.receive-received.new.door c.noted-refused.result
-    (rounds_more k c.args.peer g.A.Link.Link.shown g.A.Acceptor.standing g.A.Acceptor.faults g.A.Acceptor.ends (view c.args.seat.now) c.args.door.now (view c.loop.seat)
+    (rounds_more k c.args.reception.now.peer g.A.Link.Link.shown g.A.Acceptor.standing g.A.Acceptor.faults g.A.Acceptor.ends (view c.args.seat.now) c.args.door.now (view c.loop.seat)
     (view c.receive-received.new.seat) c.loop.door c.receive-received.new.door c.loop.refused c.noted-refused.result c.receive-received.result
     (c.loop.invariant.rounds k given)
     (λ visits so_far. c.receive-received.ensures.received k (view c.args.seat.now) c.args.door.now visits given so_far)
@@ -42,9 +42,9 @@ loop-preserved g c = record {
   ready = c.receive-received.ensures.ready;
   aids = aids_through c.args.aid.now.seat c.loop.aid.seat c.receive-received.new.aid.seat c.loop.invariant.aids c.receive-received.ensures.aids;
   rounds = λ k given.
-      rounds_looked k c.args.peer g.A.Link.Link.shown g.A.Acceptor.standing g.A.Acceptor.faults g.A.Acceptor.ends (view c.args.seat.now) c.args.door.now
+      rounds_looked k c.args.reception.now.peer g.A.Link.Link.shown g.A.Acceptor.standing g.A.Acceptor.faults g.A.Acceptor.ends (view c.args.seat.now) c.args.door.now
       (view c.receive-received.new.seat) (view c.phase-phase.new.seat) c.receive-received.new.door c.noted-refused.result
-      (rounds_more k c.args.peer g.A.Link.Link.shown g.A.Acceptor.standing g.A.Acceptor.faults g.A.Acceptor.ends (view c.args.seat.now) c.args.door.now (view c.loop.seat)
+      (rounds_more k c.args.reception.now.peer g.A.Link.Link.shown g.A.Acceptor.standing g.A.Acceptor.faults g.A.Acceptor.ends (view c.args.seat.now) c.args.door.now (view c.loop.seat)
       (view c.receive-received.new.seat) c.loop.door c.receive-received.new.door c.loop.refused c.noted-refused.result c.receive-received.result
       (c.loop.invariant.rounds k given)
       (λ visits so_far. c.receive-received.ensures.received k (view c.args.seat.now) c.args.door.now visits given so_far)

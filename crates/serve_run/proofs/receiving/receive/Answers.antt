@@ -15,7 +15,7 @@ returns-in-Link-clause-received g c = λ k first closed visits given so_far.
       refl,
       record {
         attends =
-            attends_more k c.args.peer g.A.Link.Link.shown visits first (view c.args.seat.now) (view c.serve-session.new.seat) so_far.attends x
+            attends_more k c.args.reception.now.peer g.A.Link.Link.shown visits first (view c.args.seat.now) (view c.serve-session.new.seat) so_far.attends x
             (c.serve-session.ensures.served k (so_far.attends.given ∙ given));
         passes =
             passed_on visits x (g.A.Acceptor.standing closed) (g.A.Acceptor.standing c.args.door.now) (g.A.Acceptor.standing c.next.new.self)

@@ -2,13 +2,9 @@ use Rattle.std.proofs.Common.{◌≡◌, [], arith, sym, ◌∙◌, subst, Some,
 use Rattle.seat_lock.specs.Seats.{view}
 use Rattle.poa_history.specs.Life.{givens_of}
 use Rattle.serve_run.proofs.Finishing.{served_run}
-use Rattle.serve_run.proofs.Opened.{opened_base, opened_given, opened_holds, opened_room}
-use Rattle.serve_run.specs.Holding.{Holds}
+use Rattle.serve_run.proofs.Begun.{opened_begun}
+use Rattle.serve_run.proofs.Opened.{opened_base, opened_given, opened_room}
 use Rattle.serve_run.proofs.running.serve_core.Goals as goal
-
-pub serve_workers-doors-requires-clause-given : goal.serve_workers-doors-requires-clause-given
-serve_workers-doors-requires-clause-given g c =
-    λ κs bounds. (givens_of c.args.core, opened_given (givens_of c.args.core) (view c.in-Some.seat) c.in-Some.ensures.opened)
 
 pub serve_workers-doors-requires-clause-room : goal.serve_workers-doors-requires-clause-room
 serve_workers-doors-requires-clause-room g c = λ κs bounds.
@@ -16,12 +12,8 @@ serve_workers-doors-requires-clause-room g c = λ κs bounds.
     let lanes = c.requires.lanes in omega arith)
 
 pub serve_workers-doors-requires-clause-begun : goal.serve_workers-doors-requires-clause-begun
-serve_workers-doors-requires-clause-begun g c = λ κs bounds k given.
-    let own = opened_given (givens_of c.args.core) (view c.in-Some.seat) c.in-Some.ensures.opened in
-    let same : givens_of c.args.core ≡ k = (let e : Some (givens_of c.args.core) ≡ Some k = sym own ∙ given in cc) in
-    subst (λ x. Holds {A = g.row.A.Denot} {L = g.row.A-Link.Denot} x g.A.Link.Link.shown g.A.Acceptor.standing g.A.Acceptor.faults g.A.Acceptor.ends None [] []
-    (view c.in-Some.seat)) same
-    (opened_holds (givens_of c.args.core) (view c.in-Some.seat) c.in-Some.ensures.opened g.A.Link.Link.shown g.A.Acceptor.standing g.A.Acceptor.faults g.A.Acceptor.ends)
+serve_workers-doors-requires-clause-begun g c = λ κs bounds.
+    opened_begun g.A.Link.Link.shown g.A.Acceptor.standing g.A.Acceptor.faults g.A.Acceptor.ends (givens_of c.args.core) (view c.in-Some.seat) c.in-Some.ensures.opened
 
 pub returns-clause-served : goal.returns-clause-served
 returns-clause-served g c =

@@ -12,15 +12,10 @@ returns-then-is_some-clause-served g c = λ k given.
 
 pub shut_down-lost-requires-clause-conn : goal.shut_down-lost-requires-clause-conn
 shut_down-lost-requires-clause-conn g c =
-    let k = c.requires.given in
+    let k = c.requires.begun.given in
     conn_held k.0 g.A.Link.Link.shown g.A.Acceptor.standing g.A.Acceptor.faults g.A.Acceptor.ends c.args.doors c.serve_doors-doors.result.0 c.serve_doors-doors.result.1
     (view c.args.seat.now) (view c.serve_doors-doors.new.seat) k.1
     (none_short c.serve_doors-doors.result.1.short (sym c.is_some.ensures ∙ c.if-is_some.false)) (c.serve_doors-doors.ensures.served k.0 k.1)
-
-pub returns-clause-given : goal.returns-clause-given
-returns-clause-given g c =
-    let k = c.serve_doors-doors.ensures.given in
-    (k.0, (c.shut_down-lost.ensures.same k.0 k.1).given ∙ k.1)
 
 pub returns-clause-served : goal.returns-clause-served
 returns-clause-served g c = λ k given.

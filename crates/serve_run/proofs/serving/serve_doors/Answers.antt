@@ -4,37 +4,27 @@ use Rattle.serve_run.specs.declared.task.Task.TheVariants.{Admin}
 use Rattle.serve_run.specs.Promises.{Keeps}
 use Rattle.serve_run.specs.Attending.{DoorsServed}
 use Rattle.serve_run.proofs.Attended.{doors_more, doors_short}
-use Rattle.serve_run.proofs.Opening.{connection_held}
-use Rattle.serve_run.proofs.Touring.{holds_kept, short_served, some_door, some_same}
+use Rattle.serve_run.proofs.Begun.{begun_held, begun_holds, begun_kept}
+use Rattle.serve_run.proofs.Touring.{short_served, some_door, some_same}
 use Rattle.serve_run.proofs.serving.serve_doors.Goals as goal
 
-pub serve_lanes-outcome-requires-clause-given : goal.serve_lanes-outcome-requires-clause-given
-serve_lanes-outcome-requires-clause-given g c = λ κs bounds. (c.requires.given.0, c.in-Ok.ensures.kept.given ∙ c.requires.given.1)
-
 pub serve_lanes-outcome-requires-clause-begun : goal.serve_lanes-outcome-requires-clause-begun
-serve_lanes-outcome-requires-clause-begun g c = λ κs bounds k given.
-    holds_kept k g.A.Link.Link.shown g.A.Acceptor.standing g.A.Acceptor.faults g.A.Acceptor.ends None [] [] (view c.args.seat.now) (view c.start.new.seat) c.in-Ok.ensures.kept
-    (c.requires.begun k (sym c.in-Ok.ensures.kept.given ∙ given))
+serve_lanes-outcome-requires-clause-begun g c = λ κs bounds.
+    begun_kept g.A.Link.Link.shown g.A.Acceptor.standing g.A.Acceptor.faults g.A.Acceptor.ends (view c.args.seat.now) (view c.start.new.seat) c.in-Ok.ensures.kept c.requires.begun
 
 pub door_back-admin-requires : goal.door_back-admin-requires
 door_back-admin-requires g c =
-    let given = c.in-Ok.ensures.started.given ∙ c.requires.given.1 in
-    let keeps = c.join-joined.ensures.joined.keeps c.requires.given.0 given in
+    let given = c.in-Ok.ensures.started.given ∙ c.requires.begun.given.1 in
+    let keeps = c.join-joined.ensures.joined.keeps c.requires.begun.given.0 given in
     let kept =
-    subst (λ x. Keeps c.requires.given.0 g.A.Link.Link.shown g.A.Acceptor.standing g.A.Acceptor.faults g.A.Acceptor.ends x
+    subst (λ x. Keeps c.requires.begun.given.0 g.A.Link.Link.shown g.A.Acceptor.standing g.A.Acceptor.faults g.A.Acceptor.ends x
     (view c.in-Ok.ticket.promise.job.value.seat) c.join-joined.ensures.joined.ran) c.in-Ok.ensures.started.task_is keeps in
     some_door c.join-joined.result.door c.join-joined.ensures.joined.ran.door kept.0 c.join-joined.ensures.joined.door_is kept.1
 
 pub shut_down-lost-requires-clause-conn : goal.shut_down-lost-requires-clause-conn
 shut_down-lost-requires-clause-conn g c =
-    let k = c.requires.given in
-    connection_held k.0 g.A.Link.Link.shown g.A.Acceptor.standing g.A.Acceptor.faults g.A.Acceptor.ends [] [] (view c.start.new.seat)
-    (holds_kept k.0 g.A.Link.Link.shown g.A.Acceptor.standing g.A.Acceptor.faults g.A.Acceptor.ends None [] [] (view c.args.seat.now)
-    (view c.start.new.seat) c.in-Err.ensures.kept (c.requires.begun k.0 k.1))
-
-pub returns-in-Ok-clause-given : goal.returns-in-Ok-clause-given
-returns-in-Ok-clause-given g c =
-    (c.serve_lanes-outcome.ensures.given.0, ap (λ x. x.givens) c.join-joined.ensures.joined.joined ∙ c.serve_lanes-outcome.ensures.given.1)
+    begun_held g.A.Link.Link.shown g.A.Acceptor.standing g.A.Acceptor.faults g.A.Acceptor.ends (view c.start.new.seat)
+    (begun_kept g.A.Link.Link.shown g.A.Acceptor.standing g.A.Acceptor.faults g.A.Acceptor.ends (view c.args.seat.now) (view c.start.new.seat) c.in-Err.ensures.kept c.requires.begun)
 
 pub returns-in-Ok-clause-served : goal.returns-in-Ok-clause-served
 returns-in-Ok-clause-served g c = λ k given.
@@ -53,11 +43,6 @@ returns-in-Ok-clause-served g c = λ k given.
     (view c.in-Ok.ticket.promise.job.value.seat) started.room c.join-joined.result.door c.join-joined.result.refused c.join-joined.result.end
     c.join-joined.ensures.joined kept c.door_back-admin.ensures)
 
-pub returns-in-Err-clause-given : goal.returns-in-Err-clause-given
-returns-in-Err-clause-given g c =
-    let k = c.requires.given in
-    (k.0, (c.shut_down-lost.ensures.same k.0 (c.in-Err.ensures.kept.given ∙ k.1)).given ∙ (c.in-Err.ensures.kept.given ∙ k.1))
-
 pub returns-in-Err-clause-served : goal.returns-in-Err-clause-served
 returns-in-Err-clause-served g c = λ k given.
     subst (λ o. DoorsServed {A = g.row.A.Denot} {L = g.row.A-Link.Denot} k g.A.Link.Link.shown g.A.Acceptor.standing g.A.Acceptor.faults g.A.Acceptor.ends c.args.doors
@@ -70,4 +55,4 @@ returns-in-Err-clause-served g c = λ k given.
     (short_served k g.A.Link.Link.shown g.A.Acceptor.standing g.A.Acceptor.faults g.A.Acceptor.ends (view c.args.seat.now) (view c.start.new.seat)
     (view c.shut_down-lost.new.seat) given c.in-Err.ensures.kept c.in-Err.ensures.same
     (c.shut_down-lost.ensures.same k (c.in-Err.ensures.kept.given ∙ given))
-    (c.requires.begun k given) c.in-Err.unstarted.want c.shut_down-lost.result c.shut_down-lost.ensures.said))
+    (begun_holds g.A.Link.Link.shown g.A.Acceptor.standing g.A.Acceptor.faults g.A.Acceptor.ends k (view c.args.seat.now) c.requires.begun) c.in-Err.unstarted.want c.shut_down-lost.result c.shut_down-lost.ensures.said))

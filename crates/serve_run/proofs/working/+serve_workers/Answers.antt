@@ -5,8 +5,8 @@ use Rattle.serve_run.specs.Attending.{AllServed}
 use Rattle.serve_run.specs.Outcomes.{is_loss, with_loss}
 use Rattle.serve_run.specs.declared.outcome.Want.TheVariants.{Memory}
 use Rattle.serve_run.proofs.Attended.{workers_more, workers_short}
-use Rattle.serve_run.proofs.Opening.{connection_held}
-use Rattle.serve_run.proofs.Touring.{holds_kept, kept_itself, short_served}
+use Rattle.serve_run.proofs.Begun.{begun_held, begun_holds, begun_kept}
+use Rattle.serve_run.proofs.Touring.{kept_itself, short_served}
 use Rattle.serve_run.proofs.working.+serve_workers.Goals as goal
 
 pub returns-then-count-eq0-clause-served : goal.returns-then-count-eq0-clause-served
@@ -16,13 +16,9 @@ returns-then-count-eq0-clause-served g t c = λ k given.
     {L = g.row.A-Link.Denot} k g.A.Link.Link.shown g.A.Acceptor.standing g.A.Acceptor.faults g.A.Acceptor.ends n c.args.doors c.serve_and_shut.result.0 c.serve_and_shut.result.1
     (view c.args.seat.now) (view c.serve_and_shut.new.seat)) (sym none) (c.serve_and_shut.ensures.served k given)
 
-pub returns-in_default-clause-given : goal.returns-in_default-clause-given
-returns-in_default-clause-given g t c = (let k = c.requires.given in (k.0, (c.shut_down-lost.ensures.same k.0 k.1).given ∙ k.1))
-
 pub shut_down-lost-requires-clause-conn : goal.shut_down-lost-requires-clause-conn
 shut_down-lost-requires-clause-conn g t c =
-    (let k = c.requires.given in
-    connection_held k.0 g.A.Link.Link.shown g.A.Acceptor.standing g.A.Acceptor.faults g.A.Acceptor.ends [] [] (view c.args.seat.now) (c.requires.begun k.0 k.1))
+    begun_held g.A.Link.Link.shown g.A.Acceptor.standing g.A.Acceptor.faults g.A.Acceptor.ends (view c.args.seat.now) c.requires.begun
 
 pub returns-in_default-clause-served : goal.returns-in_default-clause-served
 returns-in_default-clause-served g t c = λ k given.
@@ -33,19 +29,11 @@ returns-in_default-clause-served g t c = λ k given.
     (view c.args.seat.now) (view c.shut_down-lost.new.seat)
     (short_served k g.A.Link.Link.shown g.A.Acceptor.standing g.A.Acceptor.faults g.A.Acceptor.ends (view c.args.seat.now) (view c.args.seat.now)
     (view c.shut_down-lost.new.seat) given (kept_itself (view c.args.seat.now)) refl
-    (c.shut_down-lost.ensures.same k given) (c.requires.begun k given) Memory c.shut_down-lost.result c.shut_down-lost.ensures.said))
-
-pub serve_workers-doors-requires-clause-given : goal.serve_workers-doors-requires-clause-given
-serve_workers-doors-requires-clause-given g t c = λ κs bounds. (c.requires.given.0, c.in-Ok-start.ensures.kept.given ∙ c.requires.given.1)
+    (c.shut_down-lost.ensures.same k given) (begun_holds g.A.Link.Link.shown g.A.Acceptor.standing g.A.Acceptor.faults g.A.Acceptor.ends k (view c.args.seat.now) c.requires.begun) Memory c.shut_down-lost.result c.shut_down-lost.ensures.said))
 
 pub serve_workers-doors-requires-clause-begun : goal.serve_workers-doors-requires-clause-begun
-serve_workers-doors-requires-clause-begun g t c = λ κs bounds k given.
-    holds_kept k g.A.Link.Link.shown g.A.Acceptor.standing g.A.Acceptor.faults g.A.Acceptor.ends None [] [] (view c.args.seat.now)
-    (view c.start.new.seat) c.in-Ok-start.ensures.kept (c.requires.begun k (sym c.in-Ok-start.ensures.kept.given ∙ given))
-
-pub returns-in-Ok-start-clause-given : goal.returns-in-Ok-start-clause-given
-returns-in-Ok-start-clause-given g t c =
-    (c.serve_workers-doors.ensures.given.0, ap (λ x. x.givens) c.join-joined.ensures.joined.joined ∙ c.serve_workers-doors.ensures.given.1)
+serve_workers-doors-requires-clause-begun g t c = λ κs bounds.
+    begun_kept g.A.Link.Link.shown g.A.Acceptor.standing g.A.Acceptor.faults g.A.Acceptor.ends (view c.args.seat.now) (view c.start.new.seat) c.in-Ok-start.ensures.kept c.requires.begun
 
 pub returns-in-Ok-start-clause-served : goal.returns-in-Ok-start-clause-served
 returns-in-Ok-start-clause-served g t c = λ k given.
@@ -67,11 +55,6 @@ returns-in-Ok-start-clause-served g t c = λ k given.
     (view c.in-Ok-start.ticket.promise.job.value.seat) started.room started.fresh c.join-joined.result.door c.join-joined.result.refused
     c.join-joined.result.end c.join-joined.ensures.joined kept.2.0 kept.2.1 kept.2.2)
 
-pub returns-in-Err-clause-given : goal.returns-in-Err-clause-given
-returns-in-Err-clause-given g t c =
-    let k = c.requires.given in
-    (k.0, (c.shut_down-lost-in-Err.ensures.same k.0 (c.in-Err.ensures.kept.given ∙ k.1)).given ∙ (c.in-Err.ensures.kept.given ∙ k.1))
-
 pub returns-in-Err-clause-served : goal.returns-in-Err-clause-served
 returns-in-Err-clause-served g t c = λ k given.
     subst (λ o. AllServed {A = g.row.A.Denot}
@@ -82,4 +65,4 @@ returns-in-Err-clause-served g t c = λ k given.
     (short_served k g.A.Link.Link.shown g.A.Acceptor.standing g.A.Acceptor.faults g.A.Acceptor.ends (view c.args.seat.now) (view c.start.new.seat)
     (view c.shut_down-lost-in-Err.new.seat) given c.in-Err.ensures.kept c.in-Err.ensures.same
     (c.shut_down-lost-in-Err.ensures.same k (c.in-Err.ensures.kept.given ∙ given))
-    (c.requires.begun k given) c.in-Err.unstarted.want c.shut_down-lost-in-Err.result c.shut_down-lost-in-Err.ensures.said))
+    (begun_holds g.A.Link.Link.shown g.A.Acceptor.standing g.A.Acceptor.faults g.A.Acceptor.ends k (view c.args.seat.now) c.requires.begun) c.in-Err.unstarted.want c.shut_down-lost-in-Err.result c.shut_down-lost-in-Err.ensures.said))
