@@ -4,3 +4,9 @@ pub mod Run
 pub mod Answering
 pub mod Service
 pub mod Piece
+pub mod NamesServing
+pub mod NamesStop
+pub mod NamesRun
+pub mod NamesService
+pub mod NamesPiece
+pub mod Whole

@@ -44,11 +44,11 @@ use Rattle.poad_files.specs.declared.Asked.TheVariants.{Counts, References}
 use Rattle.poad_files.specs.declared.status.Status.{Status}
 use Rattle.poad_files.specs.declared.status.Status.TheVariants.{ConfigRefused, FileFault, FileTooLong, Held, Illegal, JournalRefused, Limit, LocRefused, NoFile, NoLoc, NoMatch, Ok, ReadFault, ScriptRefused, TextRefused, WantMemory, WriteFault}
 use Rattle.poad_load.specs.Writing.{LoadGives}
-use Rattle.poad_names.specs.declared.names_end.NamesEnd.{NamesEnd}
-use Rattle.poad_names.specs.declared.names_end.NamesEnd.TheVariants as names_end
-use Rattle.poad_names.specs.Run.{status_of}
-use Rattle.poad_names.specs.Whole.{IsWholeInput as IsWholeNaming}
-use Rattle.poad_names.proofs.Whole.{IsWell as IsWellNaming, names_well}
+use Rattle.poad_answer.specs.declared.names_end.NamesEnd.{NamesEnd}
+use Rattle.poad_answer.specs.declared.names_end.NamesEnd.TheVariants as names_end
+use Rattle.poad_answer.specs.NamesRun.{status_of}
+use Rattle.poad_answer.specs.Whole.{IsWholeInput as IsWholeNaming}
+use Rattle.poad_answer.proofs.Whole.{IsWell as IsWellNaming, names_well}
 use Rattle.replay_run.specs.declared.Full.{Full}
 
 -- why a file that is held such as it has to be may still not be taken

@@ -1,7 +1,7 @@
 -- A text that goes on: its stream begins with the same messages.
 use Rattle.std.proofs.Common.{ℕ, List, [], ◌∷◌, ◌++◌, subst, append_assoc}
 use Rattle.giop_frame.specs.Stream.{Framed, Stream}
-use Rattle.poad_names.proofs.Longer.{stream_longer}
+use Rattle.poad_answer.proofs.Longer.{stream_longer}
 use Rattle.poad_answer.specs.Stop.{Begins, Comes, message_limit}
 
 pub begins_longer : (text more : List ℕ) (messages : List Framed) → Begins text messages → Begins (text ++ more) messages

@@ -6,7 +6,7 @@ use Rattle.giop_msg.specs.declared.Incoming.{Incoming}
 use Rattle.giop_msg.specs.declared.Incoming.TheVariants as incoming
 use Rattle.giop_msg.specs.declared.MsgFault.{MsgFault}
 use Rattle.giop_msg.proofs.Calls.{one_call}
-use Rattle.poad_names.proofs.Longer.{stream_longer}
+use Rattle.poad_answer.proofs.Longer.{stream_longer}
 use Rattle.session_laws.specs.Hearing.{Heard, HeardFrom, HeardIn, Stop, message_limit}
 use Rattle.session_laws.specs.Sessions.{Begins, Hears}
 use Rattle.session_laws.specs.declared.peer.Peer.{Peer}

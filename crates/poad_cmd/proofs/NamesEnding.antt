@@ -3,9 +3,9 @@ use Rattle.std.proofs.Common.{◌≡◌, ℕ, refl, sym, ◌∙◌}
 use Rattle.outside.specs.Cause.{HasCause}
 use Rattle.poad_files.specs.declared.status.Status.{Status}
 use Rattle.poad_files.specs.declared.status.Status.TheVariants as status
-use Rattle.poad_names.specs.declared.names_end.NamesEnd.{NamesEnd}
-use Rattle.poad_names.specs.declared.names_end.NamesEnd.TheVariants.{Ended, InputLimit, Malformed, ReadFault, Truncated, WantMemory, WriteFault}
-use Rattle.poad_names.specs.Run.{status_of}
+use Rattle.poad_answer.specs.declared.names_end.NamesEnd.{NamesEnd}
+use Rattle.poad_answer.specs.declared.names_end.NamesEnd.TheVariants.{Ended, InputLimit, Malformed, ReadFault, Truncated, WantMemory, WriteFault}
+use Rattle.poad_answer.specs.NamesRun.{status_of}
 
 read_told : (e : NamesEnd) → status_of e ≡ status.ReadFault → e ≡ ReadFault
 read_told Ended is = absurd (let f : status.Ok ≡ status.ReadFault = is in cc)

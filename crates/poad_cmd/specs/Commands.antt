@@ -17,8 +17,8 @@ use Rattle.poad_audit.specs.Auditing.{AuditsFiles}
 use Rattle.poad_audit.specs.Explaining.{ExplainsFiles}
 use Rattle.poad_cmd.specs.Playing.{PlaysFiles}
 use Rattle.poad_load.specs.Writing.{LoadGives}
-use Rattle.poad_names.specs.declared.names_end.NamesEnd.{NamesEnd}
-use Rattle.poad_names.specs.Run.{RunNames, status_of}
+use Rattle.poad_answer.specs.declared.names_end.NamesEnd.{NamesEnd}
+use Rattle.poad_answer.specs.NamesRun.{RunNames, status_of}
 
 -- a run of naming contexts ended with this status
 abbrev pub RunsNames : Status → (left_old left_new held_old held_new : Option (List ℕ)) → Type 0

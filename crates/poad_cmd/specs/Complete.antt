@@ -26,7 +26,7 @@ use Rattle.poad_answer.specs.declared.naming.TheConstants.{BUILT_IN}
 use Rattle.journal_audit.specs.Matching.{LinkBytes, IsSession}
 use Rattle.journal_audit.specs.Texts.{givens_in}
 use Rattle.poad_audit.specs.Auditing.{journal_limit, link_limit}
-use Rattle.poad_names.specs.Whole.{IsWholeInput as IsWholeNaming}
+use Rattle.poad_answer.specs.Whole.{IsWholeInput as IsWholeNaming}
 use Rattle.poad_files.specs.Locating.{IsLocLine}
 use Rattle.poad_files.specs.Referring.{GivesWritten, Refers}
 use Rattle.poad_files.specs.StateFile.{ReadsState, state_limit}

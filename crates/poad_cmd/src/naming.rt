@@ -4,8 +4,8 @@ ghost use Rattle.outside.specs.Cause.{HasCause};
 ghost use Rattle.poad_cmd.specs.Commands.{RunsNames};
 
 use outside::{Sink, Source};
+use poad_answer::names;
 use poad_files::Status;
-use poad_names::names;
 use std::alloc::Global;
 
 /// Serves the source by naming contexts.

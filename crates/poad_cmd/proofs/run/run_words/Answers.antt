@@ -5,8 +5,8 @@ use Rattle.poad_cmd.specs.Commands.{Does}
 use Rattle.poad_cmd.specs.Complete.{Fits}
 use Rattle.poad_cmd.proofs.Commanded.{as_meant, not_none, some_is}
 use Rattle.poad_cmd.proofs.Completed.{completes}
-use Rattle.poad_names.specs.declared.names_end.NamesEnd.TheVariants.{WantMemory}
-use Rattle.poad_names.proofs.Running.{run_refused}
+use Rattle.poad_answer.specs.declared.names_end.NamesEnd.TheVariants.{WantMemory}
+use Rattle.poad_answer.proofs.NamesRunning.{run_refused}
 use Rattle.poad_cmd.proofs.run.run_words.Goals as goal
 
 pub returns-in-Ok-clause-bad_words : goal.returns-in-Ok-clause-bad_words

@@ -1,7 +1,0 @@
-use Rattle.poad_names.proofs.Whole.{calm_well, names_well}
-use Rattle.poad_names.proofs.naming.names.Goals as goal
-
-pub returns-clause-complete : goal.returns-clause-complete
-returns-clause-complete g c reads writes whole =
-    calm_well c.serve_source.result (names_well c.serve_source.result _ _ _ _ whole c.serve_source.ensures.names)
-    (λ is. reads (c.serve_source.ensures.read.rose is)) (λ is. writes (c.serve_source.ensures.written.rose is))
