@@ -1,6 +1,10 @@
 -- The turns of workers, as the player takes them.
-use Rattle.std.proofs.Common.{◌≡◌, ℕ, suc, ◌+◌, ◌<◌, ◌≤◌, Bool, true, false, ◌||◌, List, [], ◌++◌, refl, sym, ap, ◌∙◌, subst, arith, add-one, nat_lt}
+use Rattle.std.proofs.Common.{◌≡◌, ℕ, suc, ◌+◌, ◌<◌, ◌≤◌, Bool, true, false, ◌||◌, List, [], ◌∷◌, ◌++◌, Option, Some, Result, Ok, Err, refl, sym, ap, ◌∙◌, subst, arith, add-one, nat_lt}
+use Rattle.std.specs.Prelude.{OnOk, option_map, reverse}
+use Rattle.std.specs.List.{slice_get}
 use Rattle.std.proofs.lemmas.Bool.Decides.{nat_tests}
+use Rattle.std.proofs.lemmas.List.{reverse-reverse}
+use Rattle.poa_base.specs.declared.Entry.{Entry}
 use Rattle.poa_history.specs.Life.{Life}
 use Rattle.replay_run.specs.declared.player.Player.{Player}
 use Rattle.replay_run.specs.Lines.{entry_line, idle_line}
@@ -128,3 +132,23 @@ idle_told w old mid new less idle same core printed filled away = by_worker Turn
   filled = filled ∙ ap (λ (p : Player). p.filled) same;
   turned_away = away ∙ ap (λ (p : Player). p.turned_away) same;
 })
+
+-- the newest entry of a journal is that of its history
+newest : {V : Type 0} (seen : V → Entry) (found : Option V) (view : V) (items h : List Entry) (e : Entry) (past : List Entry) → items ≡ reverse h
+    → option_map seen found ≡ slice_get (reverse items) 0 → found ≡ Some view → h ≡ e ∷ past → seen view ≡ e
+newest seen found view items h e past listed is at ends =
+    let same : Some (seen view) ≡ Some e =
+        sym (ap (option_map seen) at)
+        ∙ is
+        ∙ ap (λ (xs : List Entry). slice_get (reverse xs) 0) listed
+        ∙ ap (λ (xs : List Entry). slice_get xs 0) (reverse-reverse h ∙ ends) in
+      cc
+
+-- the line of the newest entry was printed
+pub newest_printed : {V T E : Type 0} (r : Result T E) (seen : V → Entry) (found : Option V) (view : V) (items h : List Entry) (entry : Entry)
+    (before after : List ℕ) → items ≡ reverse h → option_map seen found ≡ slice_get (reverse items) 0 → found ≡ Some view → entry ≡ seen view
+    → OnOk r (after ≡ before ++ entry_line entry)
+    → OnOk r ((e : Entry) (past : List Entry) → h ≡ e ∷ past → after ≡ before ++ entry_line e)
+newest_printed (Ok x) seen found view items h entry before after listed is at made printed =
+    λ e past ends. printed ∙ ap (λ (one : Entry). before ++ entry_line one) (made ∙ newest seen found view items h e past listed is at ends)
+newest_printed (Err x) seen found view items h entry before after listed is at made printed = tt
