@@ -138,11 +138,11 @@ newest : {V : Type 0} (seen : V → Entry) (found : Option V) (view : V) (items 
     → option_map seen found ≡ slice_get (reverse items) 0 → found ≡ Some view → h ≡ e ∷ past → seen view ≡ e
 newest seen found view items h e past listed is at ends =
     let same : Some (seen view) ≡ Some e =
-        sym (ap (option_map seen) at)
-        ∙ is
-        ∙ ap (λ (xs : List Entry). slice_get (reverse xs) 0) listed
-        ∙ ap (λ (xs : List Entry). slice_get xs 0) (reverse-reverse h ∙ ends) in
-      cc
+    sym (ap (option_map seen) at)
+    ∙ is
+    ∙ ap (λ (xs : List Entry). slice_get (reverse xs) 0) listed
+    ∙ ap (λ (xs : List Entry). slice_get xs 0) (reverse-reverse h ∙ ends) in
+    cc
 
 -- the line of the newest entry was printed
 pub newest_printed : {V T E : Type 0} (r : Result T E) (seen : V → Entry) (found : Option V) (view : V) (items h : List Entry) (entry : Entry)
