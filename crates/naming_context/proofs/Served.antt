@@ -8,13 +8,14 @@ use Rattle.cdr_core.specs.Field.{ulong, text}
 use Rattle.cdr_core.specs.Fields.{with_fields}
 use Rattle.poa_base.specs.declared.Body.{Body}
 use Rattle.poa_base.specs.declared.Call.{Call}
-use Rattle.poa_base.specs.declared.Call.TheVariants.{Request}
+use Rattle.poa_base.specs.declared.Call.TheVariants.{Request, Locate}
 use Rattle.poa_base.specs.declared.Head.{Head}
 use Rattle.poa_base.specs.declared.Outcome.{Outcome}
 use Rattle.poa_base.specs.declared.Outcome.TheVariants.{User}
+use Rattle.poa_base.specs.declared.Reply.{Reply}
 use Rattle.giop_answer.specs.declared.kind.TheConstants.{HEADER, REPLY}
 use Rattle.giop_answer.specs.Outgoing.{framed}
-use Rattle.giop_answer.specs.Reply.{hides_results, reply_opening}
+use Rattle.giop_answer.specs.Reply.{hides_results, reply_bytes, reply_opening}
 use Rattle.naming_context.specs.declared.answer.Answer.{Answer}
 use Rattle.naming_context.specs.declared.answer.Answer.TheVariants as answer
 use Rattle.naming_context.specs.declared.asked.Asked.{Asked}
@@ -26,7 +27,7 @@ use Rattle.naming_context.specs.Asking.{ReadsAsked, body_start}
 use Rattle.naming_context.specs.Names.{name_fields}
 use Rattle.naming_context.specs.Outcomes.{bad_arguments, not_found_id, reason_number}
 use Rattle.naming_context.specs.Replies.{answer_bytes, asks_reply, reply_with, with_not_found}
-use Rattle.naming_context.specs.Serving.{CallGives, DoesAt, DoesWord, IsDoneAt, IsDoneBy, Operates, ServesCall}
+use Rattle.naming_context.specs.Serving.{CallGives, DoesAt, DoesWord, IsDoneAt, IsDoneBy, Locates, Operates, ServesCall}
 use Rattle.naming_context.specs.Standing.{Standing}
 use Rattle.naming_context.specs.Table.{answering}
 
@@ -69,6 +70,19 @@ request_served (Ok x) call head target word body old new told before after is do
   waits = waits;
 }
 request_served (Err e) call head target word body old new told before after is done waits = tt
+
+-- a locate was served
+pub locate_served : {T E : Type 0} (r : Result T E) (call : Call) (head : Head) (target : Option (List ℕ)) (s : Standing) (told : Reply)
+    (before after : List ℕ) → call ≡ Locate head target → Locates s target told → OnOk r (after ≡ before ++ reply_bytes head told)
+    → OnOk r (ServesCall call s s before after)
+locate_served (Ok x) call head target s told before after is tells waits = record {
+  bytes = reply_bytes head told;
+  change = None;
+  gives = subst (λ (k : Call). CallGives s k (reply_bytes head told) None) (sym is) (told, (tells, refl, refl));
+  stands = refl;
+  waits = waits;
+}
+locate_served (Err e) call head target s told before after is tells waits = tt
 
 -- the exception of a name that isn't found
 pub not_found_bytes : (head : Head) (why : Reason) (rest : List Component) (w : Draft) (bytes : List ℕ) → hides_results head ≡ false

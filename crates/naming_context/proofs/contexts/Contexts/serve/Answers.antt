@@ -1,7 +1,7 @@
 use Rattle.std.proofs.Common.{List, ℕ, subst}
 use Rattle.naming_context.specs.Kept.{standing_of}
 use Rattle.naming_context.specs.Serving.{IsDoneBy}
-use Rattle.naming_context.proofs.Served.{request_served}
+use Rattle.naming_context.proofs.Served.{locate_served, request_served}
 use Rattle.naming_context.proofs.contexts.Contexts.serve.Goals as goal
 
 pub returns-in_ok-answer-in-Request-clause-ok : goal.returns-in_ok-answer-in-Request-clause-ok
@@ -12,3 +12,8 @@ returns-in_ok-answer-in-Request-clause-ok c =
     (λ (word : List ℕ). IsDoneBy c.in-Request.target word c.in-Request.body (standing_of c.args.self.now) c.in_ok-answer-in-Request.answer
     (standing_of c.answer.new.self)) c.as_slice.ensures c.in_ok-answer-in-Request.ensures)
     c.put_asked.ensures.ok
+
+pub returns-in-Locate-clause-ok : goal.returns-in-Locate-clause-ok
+returns-in-Locate-clause-ok c =
+    locate_served c.put_reply.result c.args.call.now c.in-Locate.head c.in-Locate.target (standing_of c.args.self.now) c.locate.result _ _
+    c.in-Locate.is c.locate.ensures.tells c.put_reply.ensures.ok
