@@ -1,4 +1,3 @@
-pub mod Bytes
 pub mod Limits
 pub mod Policies
 pub mod Minors

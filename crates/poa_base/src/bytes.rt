@@ -2,25 +2,21 @@
 ghost use Rattle.std.specs.Prelude.{◌≡◌, [], length, IfOk};
 
 use crate::copy::TryClone;
-use crate::octets::Octets;
 use std::alloc::{AllocError, Global};
-use std::fmt;
 use std::marker::Model;
 
-/// Bytes of any number: a key as it stands in a message, an operation, a body, a host. Up to 23 that were copied are kept in
-/// the value itself.
-#[derive(Drop)]
+/// Bytes of any number: a key as it stands in a message, an operation, a body, a host.
+#[derive(Debug, Drop)]
 pub struct Bytes {
-    octets: Octets,
+    items: Vec<u8>,
 }
 
 impl Model for Bytes {
     ghost use Rattle.std.specs.Prelude.{List, ℕ};
-    ghost use Rattle.poa_base.specs.Bytes.{octets_in};
 
     ghost Value = { List ℕ };
 
-    ghost view = { λ b. octets_in b.octets };
+    ghost view = { λ b. b.items.items };
 }
 
 impl Bytes {
@@ -28,48 +24,45 @@ impl Bytes {
     pub fn new(alloc: Global) -> Self
         ensures { result ≡ [] }
     {
-        Bytes::from_vec(Vec::new(alloc))
+        Bytes {
+            items: Vec::new(alloc),
+        }
     }
 
     /// The same bytes. Takes no memory.
     pub fn from_vec(items: Vec<u8>) -> Self
         ensures { result ≡ items.items }
     {
-        Bytes {
-            octets: Octets::There(items),
-        }
+        Bytes { items }
     }
 
-    /// A copy of these bytes. Takes memory where they are more than 23.
+    /// A copy of these bytes.
     pub fn copy_of(alloc: Global, bytes: &[u8]) -> Result<Self, AllocError>
         ensures { IfOk result (λ copied. copied ≡ bytes.now) }
     {
-        let octets = Octets::of(alloc, bytes)?;
-        Ok(Bytes { octets })
+        Ok(Bytes::from_vec(Vec::from_slice(alloc, bytes)?))
     }
 
-    /// The bytes, given back as a vector. Takes memory where they are kept in place.
-    pub fn into_vec(self, alloc: Global) -> Result<Vec<u8>, AllocError>
-        ensures { IfOk result (λ bytes. bytes.items ≡ self) }
+    /// The bytes, given back. Takes no memory.
+    pub fn into_vec(self) -> Vec<u8>
+        ensures { result.items ≡ self }
     {
-        match self.octets {
-            Octets::Here(short) => Vec::from_slice(alloc, short.as_slice()),
-            Octets::There(items) => Ok(items),
-        }
+        let Bytes { items } = self;
+        items
     }
 
     /// The bytes, lent.
     pub fn as_slice(&self) -> &[u8]
         ensures { result.now ≡ self.now }
     {
-        self.octets.as_slice()
+        self.items.as_slice()
     }
 
     /// How many bytes there are.
     pub fn len(&self) -> usize
         ensures { result ≡ length self.now }
     {
-        self.as_slice().len()
+        self.items.len()
     }
 }
 
@@ -77,8 +70,8 @@ impl Clone for Bytes {
     ghost is_clone = { λ x y. y ≡ x };
 
     fn clone(&self) -> Result<Self, AllocError> {
-        let octets = self.octets.try_clone()?;
-        Ok(Bytes { octets })
+        let items = self.items.clone()?;
+        Ok(Bytes { items })
     }
 }
 
@@ -93,7 +86,7 @@ impl PartialEq for Bytes {
     ghost laws = { Prim.search (comparing, rules) };
 
     fn eq(&self, other: &Self) -> bool {
-        self.as_slice() == other.as_slice()
+        self.items == other.items
     }
 }
 
@@ -107,11 +100,5 @@ impl Eq for Bytes {
 impl TryClone for Bytes {
     fn try_clone(&self) -> Result<Self, AllocError> {
         self.clone()
-    }
-}
-
-impl fmt::Debug for Bytes {
-    fn fmt<W: fmt::Write>(&self, f: &mut fmt::Formatter<W>) -> fmt::Result {
-        f.debug_list().entries(self.as_slice()).finish()
     }
 }

@@ -50,7 +50,7 @@ fn play(alloc: Global, words: &[String], files: &[File], limit: u64) -> Result<D
     let played = replay(alloc, config, limit, &script)?;
     Ok(Done {
         status: status_of(&played),
-        written: played.printed.into_vec(alloc)?,
+        written: played.printed.into_vec(),
     })
 }
 

@@ -42,7 +42,7 @@ fn loc_line(alloc: Global, ior: &Ior) -> Result<Option<Bytes>, WantMemory>
     let Some(text) = write_corbaloc(alloc, ior)? else {
         return Ok(None);
     };
-    let mut line = text.into_vec(alloc)?;
+    let mut line = text.into_vec();
     line.extend_from_slice(b"\n")?;
     Ok(Some(Bytes::from_vec(line)))
 }

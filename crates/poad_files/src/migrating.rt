@@ -62,7 +62,7 @@ fn migrated_line(alloc: Global, config: &Config, ior: &Ior) -> Result<Bytes, Wan
     ensures { IfOk result (λ line. IsMigratedLine config.now ior.now line) }
 {
     let migrated = migrated(alloc, config, ior)?;
-    let mut line = write_ior(alloc, &migrated)?.into_vec(alloc)?;
+    let mut line = write_ior(alloc, &migrated)?.into_vec();
     line.extend_from_slice(b"\n")?;
     Ok(Bytes::from_vec(line))
 }

@@ -10,11 +10,11 @@ use crate::names::name;
 use poa_base::{Bytes, Oid};
 use std::alloc::Global;
 
-fn short(alloc: Global, bytes: Bytes) -> Result<Oid, WordFault>
+fn short(bytes: Bytes) -> Result<Oid, WordFault>
     ensures value { WordGives result (short_enough bytes) }
     ensures same { IfOk result (λ id. id ≡ bytes) }
 {
-    Oid::from_vec(bytes.into_vec(alloc)?).ok_or(WordFault::OutOfForm)
+    Oid::from_vec(bytes.into_vec()).ok_or(WordFault::OutOfForm)
 }
 
 /// The object id that is written as poad prints it: `h:` and lower-case hexadecimal of at most 256 bytes.
@@ -22,7 +22,7 @@ pub fn identity(alloc: Global, word: &[u8]) -> Result<Oid, WordFault>
     ensures value { WordGives result (printed_id_of word.now) }
     ensures text { IfOk result (λ id. word.now ≡ spell (Token.identity id)) }
 {
-    short(alloc, octets(alloc, b"h:", word)?)
+    short(octets(alloc, b"h:", word)?)
 }
 
 /// The object id of a word in any spelling: `t:` and a name, or `h:` and hexadecimal in either case.
@@ -35,7 +35,7 @@ pub fn any_identity(alloc: Global, word: &[u8]) -> Result<Oid, WordFault>
     let Some(text) = text_behind(word, b"h:") else {
         return Err(WordFault::OutOfForm);
     };
-    short(alloc, any_hex(alloc, text)?)
+    short(any_hex(alloc, text)?)
 }
 
 fn named(alloc: Global, text: &[u8]) -> Result<Oid, WordFault>
