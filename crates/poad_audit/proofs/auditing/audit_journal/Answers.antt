@@ -1,9 +1,15 @@
-use Rattle.std.proofs.Common.{Option, option_map, sym, subst}
+use Rattle.std.proofs.Common.{Option, option_map, refl, sym, subst}
 use Rattle.command_words.specs.Auditing.{seen_link}
 use Rattle.command_words.specs.declared.link_words.LinkWords.{LinkWords}
+use Rattle.poad_files.specs.Taking.{HoldsStill}
+use Rattle.poad_files.proofs.Told.{told_here}
 use Rattle.poad_audit.specs.Auditing.{AuditsJournal}
 use Rattle.poad_audit.proofs.Audited.{unlinked}
 use Rattle.poad_audit.proofs.auditing.audit_journal.Goals as goal
+
+-- no file is touched
+pub returns-in_default-clause-contents : goal.returns-in_default-clause-contents
+returns-in_default-clause-contents g c = told_here (g.F.Files.contents c.args.files.now) HoldsStill (λ x name. refl)
 
 pub returns-in-Err-clause-audits : goal.returns-in-Err-clause-audits
 returns-in-Err-clause-audits g c =
