@@ -2,7 +2,7 @@
 use Rattle.std.proofs.Common.{refl}
 use Rattle.poad_files.specs.Taking.{IsAccepted}
 use Rattle.poad_files.proofs.Accepted.{accepted, config_on_literals}
-use Rattle.poad_answer.specs.declared.naming.TheConstants.{BUILT_IN}
+use Rattle.poad_answer.specs.declared.configured.TheConstants.{BUILT_IN}
 
 pub built_in_accepted : IsAccepted BUILT_IN.now
 unfolding config_on_literals

@@ -2,11 +2,9 @@ pub mod Serving
 pub mod Pieces
 pub mod Worked
 pub mod Running
+pub mod Answered
 pub mod BuiltIn
 mod Noting
-mod Messages
-mod NamesServing
-mod NamesPieces
-pub mod NamesRunning
+pub mod Named
 pub mod Longer
 pub mod Whole

@@ -3,7 +3,7 @@ use Rattle.std.proofs.Common.{◌≡◌, ℕ, List, [], ◌∷◌, ◌++◌, sym
 use Rattle.std.specs.List.{concat}
 use Rattle.giop_frame.specs.Stream.{AreGood, End, Framed, Reading, Stream, StreamFrom, after, after_all, completed, messages_of, start}
 use Rattle.giop_frame.proofs.Streams.{some_stream, stream_put}
-use Rattle.poad_answer.specs.NamesStop.{Begins, message_limit}
+use Rattle.poad_answer.specs.Stop.{Begins, Comes, message_limit}
 
 -- good parts, and the stream of what stands behind them
 parts_put : (limit : ℕ) (r : Reading) (parts : List (List ℕ)) (left : List ℕ) (messages : List Framed) (end : End) → AreGood limit r parts
@@ -42,3 +42,8 @@ begins_longer text more messages b =
       end = longer.1;
       stream = subst (λ (ms : List Framed). Stream message_limit (text ++ more) ms longer.1) (append_assoc messages b.more longer.0) longer.2;
     }
+
+pub comes_longer : (text more : List ℕ) (messages : List Framed) (IsSuch : Framed → Type 0) → Comes text messages IsSuch
+    → Comes (text ++ more) messages IsSuch
+comes_longer text more messages IsSuch c =
+    record { message = c.message; begins = begins_longer text more (messages ++ c.message ∷ []) c.begins; is = c.is }

@@ -5,21 +5,20 @@ use Rattle.std.specs.declared.result.Result.TheVariants as ok
 use Rattle.std.proofs.Math.Seq.{take-append-add}
 use Rattle.std.proofs.lemmas.List.{take-append-drop, take_at}
 use Rattle.outside.specs.Told.{IfTold}
-use Rattle.poa_history.specs.Life.{Life}
-use Rattle.poa_core.specs.Answers.{unadmitted}
-use Rattle.giop_frame.specs.Stream.{Framed, End}
+use Rattle.giop_frame.specs.Stream.{Framed, End as StreamEnd}
 use Rattle.giop_frame.specs.Framing.{Framing}
 use Rattle.giop_frame.specs.Framer.{FramerGives as FramerGives, HasFirst, HasGiven, reach}
 use Rattle.giop_frame.proofs.Cutting.{given_fed}
+use Rattle.poad_answer.specs.declared.end.End.{End}
+use Rattle.poad_answer.specs.declared.end.End.TheVariants.{Read, WriteFault, WantMemory}
 use Rattle.poad_answer.specs.declared.service.Service.{Service}
-use Rattle.poad_files.specs.declared.status.Status.{Status}
-use Rattle.poad_files.specs.declared.status.Status.TheVariants.{Ok, Malformed, Held, Limit, WriteFault, WantMemory}
 use Rattle.poad_answer.specs.declared.stop.Stop.{Stop}
 use Rattle.poad_answer.specs.declared.stop.Stop.TheVariants as stop
 use Rattle.poad_files.specs.Delivery.{Hands}
-use Rattle.poad_answer.specs.Serving.{MessageGives, IsLegalRun, IsServing, Serves}
+use Rattle.poad_answer.specs.Meaning.{Meaning}
+use Rattle.poad_answer.specs.Messages.{MessageGives, Serves}
 use Rattle.poad_answer.specs.Stop.{message_limit, Begins, ClosesIn, has_closing, last_words}
-use Rattle.poad_answer.specs.Run.{Gains}
+use Rattle.poad_answer.specs.Source.{IsLeft, is_written}
 use Rattle.poad_answer.specs.Service.{HasServed, IsReady, ServesUpTo, Keeps}
 use Rattle.poad_answer.specs.Piece.{EndsPiece, GoesOn, ServiceEnds, TakesPiece}
 use Rattle.poad_files.proofs.Told.{told_then, told_here, told_so}
@@ -51,57 +50,53 @@ hands_part a b first last p = told_so a b _ _ (λ x y e. (
 take_all : (bytes : List ℕ) → bytes ≡ take (length bytes) bytes
 take_all bytes = sym (ap (take (length bytes)) (sym (append-nil bytes)) ∙ take_at bytes [] _ refl)
 
--- what a run that ends here gained
-gains_all : (status : Status) (why : Stop) (held : ℕ) (bytes before now : List ℕ) → EndsPiece status why held → now ≡ before ++ bytes
-    → Gains status bytes before now
-gains_all Ok why held bytes before now ends e = e
-gains_all (Held count) why held bytes before now ends e = e
-gains_all (Malformed at) why held bytes before now ends e = e
-gains_all (Limit calls limit) why held bytes before now ends e = e
-gains_all WriteFault why held bytes before now ends e = (length bytes, e ∙ ap (λ (all : List ℕ). before ++ all) (take_all bytes))
-gains_all WantMemory why held bytes before now ends e = (length bytes, e ∙ ap (λ (all : List ℕ). before ++ all) (take_all bytes))
-gains_all _ why held bytes before now ends e = absurd ends
+-- what was gained, where it ends here
+hands_all : (d : Bool) (bytes before now : List ℕ) → now ≡ before ++ bytes → Hands d bytes before now
+hands_all true bytes before now e = e
+hands_all false bytes before now e = (length bytes, e ∙ ap (λ (all : List ℕ). before ++ all) (take_all bytes))
 
 -- no memory was left for the piece
-pub piece_refused : (piece : List ℕ) (old new : Service) (held : Option (List ℕ)) → IsLegalRun old.core → TakesPiece (Some WantMemory) piece old new held held
-piece_refused piece old new held legal = record {
-  legal = legal;
+pub piece_refused : {A : Type 0} (m : Meaning A) (piece : List ℕ) (old new : Service A) (held : Option (List ℕ)) → m.fits old.answerer
+    → TakesPiece m (Some WantMemory) piece old new held held
+piece_refused m piece old new held fits = record {
   messages = [];
   replies = [];
-  life = old.core;
+  last = old.answerer;
   served = (refl, refl);
+  fits = fits;
   why = stop.NoMemory;
   minor = 0;
   closes = λ fed knows closing. absurd (let e : false ≡ true = closing in cc);
   stops = λ fed given h. subst (Begins (fed ++ piece)) (sym (append-nil given)) (begins_with fed piece given old.framer h);
   gave = told_here held _ (λ x. (0, sym (append-nil x)));
-  ends = tt;
+  ends = (tt, tt);
 }
 
 -- a framer that was fed the piece
 pub record Fed (piece : List ℕ) (f g : Framing) : Type 0 where
-  pub gives : (text : List ℕ) (messages : List Framed) (end : End) → FramerGives g text messages end ↔ FramerGives f (piece ++ text) messages end
+  pub gives : (text : List ℕ) (messages : List Framed) (end : StreamEnd) → FramerGives g text messages end ↔ FramerGives f (piece ++ text) messages end
   pub reached : reach g ≤ reach f + length piece
   pub first : (limit : ℕ) (fed : List ℕ) → HasFirst limit fed f → HasFirst limit (fed ++ piece) g
 
-fed_on : (piece fed : List ℕ) (given : List Framed) (old mid : Service) → Fed piece old.framer mid.framer → HasServed fed given old
+fed_on : {A : Type 0} (piece fed : List ℕ) (given : List Framed) (old mid : Service A) → Fed piece old.framer mid.framer → HasServed fed given old
     → HasServed (fed ++ piece) given mid
 fed_on piece fed given old mid more h = given_fed message_limit fed piece given old.framer mid.framer h more.gives
 
 -- the messages of a piece were served, and this came of their replies
-piece_served : (ending : Option Status) (why : Stop) (minor : ℕ) (piece : List ℕ) (old mid served new : Service) (h k : Option (List ℕ)) → Fed piece old.framer mid.framer
-    → mid.core ≡ old.core → (u : ServesUpTo why mid served) → ((fed : List ℕ) → HasFirst message_limit fed served.framer → ClosesIn why fed minor)
-    → IfTold h k (λ before now. MatchOption ending (now ≡ before ++ u.replies) (λ status. Gains status (u.replies ++ last_words minor why) before now))
-    → MatchOption ending (GoesOn why piece u.messages u.life old new) (λ status. EndsPiece status why (unadmitted u.life.history))
-    → TakesPiece ending piece old new h k
-piece_served ending why minor piece old mid served new h k more servant u closes gave ends = record {
+piece_served : {A : Type 0} (m : Meaning A) (ending : Option End) (why : Stop) (minor : ℕ) (piece : List ℕ) (old mid served new : Service A)
+    (h k : Option (List ℕ)) → Fed piece old.framer mid.framer → mid.answerer ≡ old.answerer → (u : ServesUpTo m why mid served)
+    → ((fed : List ℕ) → HasFirst message_limit fed served.framer → ClosesIn why fed minor)
+    → IfTold h k (λ before now. MatchOption ending (now ≡ before ++ u.replies) (λ end. Hands (is_written end) (u.replies ++ last_words minor why) before now))
+    → MatchOption ending (GoesOn why piece u.messages u.last old new) (λ end. EndsPiece end why × IsLeft end u.last new.answerer)
+    → TakesPiece m ending piece old new h k
+piece_served {A} m ending why minor piece old mid served new h k more stood u closes gave ends = record {
   minor = minor;
   closes = λ fed knows. closes (fed ++ piece) (u.first (fed ++ piece) (more.first message_limit fed knows));
-  legal = u.legal;
   messages = u.messages;
   replies = u.replies;
-  life = u.life;
-  served = subst (λ (s : Life). Serves MessageGives s u.messages u.replies u.life) servant u.served;
+  last = u.last;
+  served = subst (λ (s : A). Serves (MessageGives m.gives) s u.messages u.replies u.last) stood u.served;
+  fits = u.fits;
   why = why;
   stops = λ fed given has. u.stops (fed ++ piece) given (fed_on piece fed given old mid more has);
   gave = gave;
@@ -109,78 +104,70 @@ piece_served ending why minor piece old mid served new h k more servant u closes
 }
 
 -- the bytes that were handed on
-handed : (why : Stop) (minor : ℕ) (mid served : Service) (h k : Option (List ℕ)) (d : Bool) → (u : ServesUpTo why mid served) → mid.replies.items ≡ []
-    → IfTold h k (Hands d (served.replies.items ++ last_words minor why)) → IfTold h k (Hands d (u.replies ++ last_words minor why))
-handed why minor mid served h k d u none p =
+handed : {A : Type 0} (m : Meaning A) (why : Stop) (minor : ℕ) (mid served : Service A) (h k : Option (List ℕ)) (d : Bool) → (u : ServesUpTo m why mid served)
+    → mid.replies.items ≡ [] → IfTold h k (Hands d (served.replies.items ++ last_words minor why)) → IfTold h k (Hands d (u.replies ++ last_words minor why))
+handed m why minor mid served h k d u none p =
     subst (λ (bytes : List ℕ). IfTold h k (Hands d (bytes ++ last_words minor why))) (u.waiting ∙ ap (λ (front : List ℕ). front ++ u.replies) none) p
 
 -- a write failed
-pub piece_unwritten : (why : Stop) (minor : ℕ) (piece : List ℕ) (old mid served new : Service) (h k : Option (List ℕ)) → Fed piece old.framer mid.framer
-    → mid.core ≡ old.core → mid.replies.items ≡ [] → ServesUpTo why mid served
+pub piece_unwritten : {A : Type 0} (m : Meaning A) (why : Stop) (minor : ℕ) (piece : List ℕ) (old mid served new : Service A) (h k : Option (List ℕ))
+    → Fed piece old.framer mid.framer → mid.answerer ≡ old.answerer → mid.replies.items ≡ [] → ServesUpTo m why mid served
     → ((fed : List ℕ) → HasFirst message_limit fed served.framer → ClosesIn why fed minor) → IfTold h k (Hands false (served.replies.items ++ last_words minor why))
-    → TakesPiece (Some WriteFault) piece old new h k
-piece_unwritten why minor piece old mid served new h k more servant none u closes p =
-    piece_served (Some WriteFault) why minor piece old mid served new h k more servant u closes (handed why minor mid served h k false u none p) tt
+    → TakesPiece m (Some WriteFault) piece old new h k
+piece_unwritten m why minor piece old mid served new h k more stood none u closes p =
+    piece_served m (Some WriteFault) why minor piece old mid served new h k more stood u closes (handed m why minor mid served h k false u none p) (tt, tt)
 
-goes_on : (why : Stop) (piece : List ℕ) (old mid served new : Service) → Fed piece old.framer mid.framer → (u : ServesUpTo why mid served)
-    → new.framer ≡ served.framer → new.core ≡ served.core → new.replies.items ≡ [] → why ≡ stop.Waits new.waiting → GoesOn why piece u.messages u.life old new
-goes_on why piece old mid served new more u framer servant none waits =
-    let kept : Keeps (stop.Waits new.waiting) u.messages u.life mid served = subst (λ (w : Stop). Keeps w u.messages u.life mid served) waits u.kept in
+goes_on : {A : Type 0} (m : Meaning A) (why : Stop) (piece : List ℕ) (old mid served new : Service A) → Fed piece old.framer mid.framer
+    → (u : ServesUpTo m why mid served) → new.framer ≡ served.framer → new.answerer ≡ served.answerer → new.replies.items ≡ []
+    → why ≡ stop.Waits new.waiting → GoesOn why piece u.messages u.last old new
+goes_on m why piece old mid served new more u framer stood none waits =
+    let kept : Keeps (stop.Waits new.waiting) u.messages u.last mid served = subst (λ (w : Stop). Keeps w u.messages u.last mid served) waits u.kept in
     record {
       waits = waits;
-      is_life = servant ∙ kept.0;
+      is_last = stood ∙ kept.0;
       delivered = none;
       reached = let e : reach new.framer ≡ reach mid.framer = ap reach framer ∙ u.reached in
-          let m : reach mid.framer ≤ reach old.framer + length piece = more.reached in omega arith;
+          let r : reach mid.framer ≤ reach old.framer + length piece = more.reached in omega arith;
       first = λ fed knows. subst (HasFirst message_limit (fed ++ piece)) (sym framer) (u.first (fed ++ piece) (more.first message_limit fed knows));
       given = λ fed given h. subst (λ (f : Framing). HasGiven message_limit (fed ++ piece) (given ++ u.messages) f) (sym framer)
           (kept.1 (fed ++ piece) given (fed_on piece fed given old mid more h));
     }
 
--- a run that ends at a CloseConnection leaves as many calls unadmitted as the messages before it
-ends_kept : (status : Status) (why : Stop) (mid served : Service) (life : Life) (u : ServesUpTo why mid served) → life ≡ served.core
-    → EndsPiece status why (unadmitted life.history) → EndsPiece status why (unadmitted u.life.history)
-ends_kept Ok why mid served life u same e =
-    (let kept : served.core ≡ u.life = subst (λ (w : Stop). Keeps w u.messages u.life mid served) e.0 u.kept in
-    subst (λ (s : Life). EndsPiece Ok why (unadmitted s.history)) (same ∙ kept) e)
-ends_kept (Held count) why mid served life u same e =
-    (let kept : served.core ≡ u.life = subst (λ (w : Stop). Keeps w u.messages u.life mid served) e.0 u.kept in
-    subst (λ (s : Life). EndsPiece (Held count) why (unadmitted s.history)) (same ∙ kept) e)
-ends_kept (Malformed at) why mid served life u same e = e
-ends_kept (Limit calls bytes) why mid served life u same e = e
-ends_kept WriteFault why mid served life u same e = tt
-ends_kept WantMemory why mid served life u same e = tt
-ends_kept _ why mid served life u same e = absurd e
+-- a CloseConnection leaves the answerer as the messages before it left it
+left_so : {A : Type 0} (m : Meaning A) (end : End) (why : Stop) (mid served : Service A) (now : A) (u : ServesUpTo m why mid served) → now ≡ served.answerer
+    → EndsPiece end why → IsLeft end u.last now
+left_so m Read why mid served now u same e = same ∙ subst (λ (w : Stop). Keeps w u.messages u.last mid served) e u.kept
+left_so m _ why mid served now u same e = tt
 
--- all was written, and the run goes on or ends
-pub piece_settled : (ending : Option Status) (why : Stop) (minor : ℕ) (piece : List ℕ) (old mid served new : Service) (h k : Option (List ℕ))
-    → Fed piece old.framer mid.framer → mid.core ≡ old.core → mid.replies.items ≡ [] → ServesUpTo why mid served
+-- all was written, and it goes on or ends
+pub piece_settled : {A : Type 0} (m : Meaning A) (ending : Option End) (why : Stop) (minor : ℕ) (piece : List ℕ) (old mid served new : Service A)
+    (h k : Option (List ℕ)) → Fed piece old.framer mid.framer → mid.answerer ≡ old.answerer → mid.replies.items ≡ [] → ServesUpTo m why mid served
     → ((fed : List ℕ) → HasFirst message_limit fed served.framer → ClosesIn why fed minor)
-    → IfTold h k (Hands true (served.replies.items ++ last_words minor why)) → (has_closing why ≡ false → new.framer ≡ served.framer) → new.core ≡ served.core → new.replies.items ≡ []
-    → ServiceEnds ending why new → TakesPiece ending piece old new h k
-piece_settled None why minor piece old mid served new h k more servant none u closes p framer state clear waits =
-    piece_served None why minor piece old mid served new h k more servant u closes
+    → IfTold h k (Hands true (served.replies.items ++ last_words minor why)) → (has_closing why ≡ false → new.framer ≡ served.framer)
+    → new.answerer ≡ served.answerer → new.replies.items ≡ [] → ServiceEnds ending why new → TakesPiece m ending piece old new h k
+piece_settled m None why minor piece old mid served new h k more stood none u closes p framer same clear waits =
+    piece_served m None why minor piece old mid served new h k more stood u closes
     (told_so h k _ _ (λ x y e. e ∙ ap (λ (bytes : List ℕ). x ++ bytes) (ap (λ (w : Stop). u.replies ++ last_words minor w) waits ∙ append-nil u.replies))
-    (handed why minor mid served h k true u none p))
-    (goes_on why piece old mid served new more u (framer (ap has_closing waits)) state clear waits)
-piece_settled (Some status) why minor piece old mid served new h k more servant none u closes p framer state clear ends =
-    piece_served (Some status) why minor piece old mid served new h k more servant u closes
-    (told_so h k _ _ (λ x y e. gains_all status why _ (u.replies ++ last_words minor why) x y ends e) (handed why minor mid served h k true u none p))
-    (ends_kept status why mid served new.core u state ends)
+    (handed m why minor mid served h k true u none p))
+    (goes_on m why piece old mid served new more u (framer (ap has_closing waits)) same clear waits)
+piece_settled m (Some end) why minor piece old mid served new h k more stood none u closes p framer same clear ends =
+    piece_served m (Some end) why minor piece old mid served new h k more stood u closes
+    (told_so h k _ _ (λ x y e. hands_all (is_written end) (u.replies ++ last_words minor why) x y e) (handed m why minor mid served h k true u none p))
+    (ends, left_so m end why mid served new.answerer u same ends)
 
 pub if_ok : {T E : Type 0} (r : Result T E) (P Q : T → Type 0) → ((x : T) → P x → Q x) → IfOk r P → IfOk r Q
 if_ok (ok.Ok x) P Q f p = f x p
 if_ok (ok.Err e) P Q f p = p
 
--- a service with the same framer and run is as ready
-pub ready_same : (a b : Service) → b.framer ≡ a.framer → b.core ≡ a.core → IsReady a → IsReady b
-ready_same a b framer core ready = record {
-  serving = subst (λ (life : Life). IsServing life.history) (sym core) ready.serving;
+-- a service with the same framer and answerer is as ready
+ready_same : {A : Type 0} (m : Meaning A) (a b : Service A) → b.framer ≡ a.framer → b.answerer ≡ a.answerer → IsReady m a → IsReady m b
+ready_same m a b framer same ready = record {
+  fits = subst m.fits (sym same) ready.fits;
   limited = ap (λ (f : Framing). f.limit) framer ∙ ready.limited;
 }
 
 -- a service that goes on was left as it was by the last words, of which it has none
-pub goes_on_ready : (ending : Option Status) (why : Stop) (served new : Service) → ServiceEnds ending why new → ending ≡ None
-    → (has_closing why ≡ false → new.framer ≡ served.framer) → new.core ≡ served.core → IsReady served → IsReady new
-goes_on_ready None why served new waits none framer core ready = ready_same served new (framer (ap has_closing waits)) core ready
-goes_on_ready (Some status) why served new waits none framer core ready = absurd (let e : Some status ≡ None = none in cc)
+pub goes_on_ready : {A : Type 0} (m : Meaning A) (ending : Option End) (why : Stop) (served new : Service A) → ServiceEnds ending why new → ending ≡ None
+    → (has_closing why ≡ false → new.framer ≡ served.framer) → new.answerer ≡ served.answerer → IsReady m served → IsReady m new
+goes_on_ready m None why served new waits none framer same ready = ready_same m served new (framer (ap has_closing waits)) same ready
+goes_on_ready m (Some end) why served new waits none framer same ready = absurd (let e : Some end ≡ None = none in cc)

@@ -13,8 +13,9 @@ use Rattle.naming_context.specs.Standing.{Change}
 use Rattle.poad_answer.specs.declared.names_end.NamesEnd.{NamesEnd}
 use Rattle.poad_answer.specs.declared.names_end.NamesEnd.TheVariants.{Ended, InputLimit, Malformed, ReadFault, Truncated, WantMemory, WriteFault}
 use Rattle.poad_answer.specs.NamesRun.{RunNames}
-use Rattle.poad_answer.specs.NamesServing.{GivesAsked, MessageGives, Serves}
-use Rattle.poad_answer.specs.NamesStop.{Begins, Comes, IsBadMessage, IsBadPlace, IsClosing, StopsAt, message_limit}
+use Rattle.poad_answer.specs.Messages.{GivesAsked, MessageGives, Serves}
+use Rattle.poad_answer.specs.NamesServing.{GivesNoted, RefusesNone}
+use Rattle.poad_answer.specs.Stop.{Begins, Comes, IsBadMessage, IsBadPlace, IsClosing, StopsAt, message_limit}
 use Rattle.poad_answer.specs.Whole.{AreAsking, IsWholeInput}
 use Rattle.poad_answer.proofs.Longer.{begins_longer}
 
@@ -27,11 +28,11 @@ IsWell WriteFault = Unit {0}
 IsWell _ = ⊥
 
 -- a CloseConnection isn't served
-never_served : (m : Framed) (a : List Change) (bytes : List ℕ) (b : List Change) → MessageGives a m bytes b → IsClosing m → ⊥
+never_served : (m : Framed) (a : List Change) (bytes : List ℕ) (b : List Change) → MessageGives GivesNoted a m bytes b → IsClosing m → ⊥
 never_served m a bytes b gives closing =
     let told : Ok gives.asked ≡ Ok Closing = one_call m.bytes (Ok gives.asked) (Ok Closing) gives.asks closing in
     let same : gives.asked ≡ Closing = cc in
-    let none : GivesAsked a Closing bytes b = subst (λ (asked : Incoming). GivesAsked a asked bytes b) same gives.gives in
+    let none : GivesAsked GivesNoted a Closing (length m.bytes) bytes b = subst (λ (asked : Incoming). GivesAsked GivesNoted a asked (length m.bytes) bytes b) same gives.gives in
     none
 
 -- a message that can't be read is none of a whole input
@@ -44,13 +45,13 @@ never_bad m more end why bad (inr asking) =
     cc
 
 -- what stands behind messages that were served
-behind_one : (m : Framed) (more : List Framed) (end : End) (a : List Change) (bytes : List ℕ) (b : List Change) → MessageGives a m bytes b
+behind_one : (m : Framed) (more : List Framed) (end : End) (a : List Change) (bytes : List ℕ) (b : List Change) → MessageGives GivesNoted a m bytes b
     → AreAsking (m ∷ more) end → AreAsking more end
 behind_one m more end a bytes b gives (inl closing) = absurd (never_served m a bytes b gives closing)
 behind_one m more end a bytes b gives (inr asking) = asking.1
 
 behind_served : (messages rest : List Framed) (end : End) (a : List Change) (replies : List ℕ) (b : List Change)
-    → Serves MessageGives a messages replies b → AreAsking (messages ++ rest) end → AreAsking rest end
+    → Serves (MessageGives GivesNoted) a messages replies b → AreAsking (messages ++ rest) end → AreAsking rest end
 behind_served [] rest end a replies b served asking = asking
 behind_served (m ∷ messages) rest end a replies b served asking =
     behind_served messages rest end served.1.0 served.1.1.0 b served.1.1.1.1
@@ -113,8 +114,8 @@ module _ (text : List ℕ) (whole : IsWholeInput text) (rest : List ℕ) (h k : 
   ends_well ReadFault run = tt
   ends_well WriteFault run = tt
   ends_well (Truncated have) run =
-      never_truncated (Truncated have) run have (subst (λ w. StopsAt w run.got run.messages) run.ends.0 run.stops) run.ends.2 run.ends.1
-  ends_well (Malformed at) run = never_malformed (Malformed at) run at (subst (λ w. StopsAt w run.got run.messages) run.ends run.stops)
+      never_truncated (Truncated have) run have (subst (λ w. StopsAt RefusesNone w run.got run.messages) run.ends.0 run.stops) run.ends.2 run.ends.1
+  ends_well (Malformed at) run = never_malformed (Malformed at) run at (subst (λ w. StopsAt RefusesNone w run.got run.messages) run.ends run.stops)
   ends_well (InputLimit n) run = short_of_limit (InputLimit n) run n run.ends.1 run.ends.2
 
 pub names_well : (e : NamesEnd) (left_old left_new h k : Option (List ℕ)) → IsSomeAnd left_old IsWholeInput → RunNames e left_old left_new h k → IsWell e

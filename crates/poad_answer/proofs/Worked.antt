@@ -1,19 +1,19 @@
 -- The turns of worker 0, and what is collected then.
-use Rattle.std.proofs.Common.{◌≡◌, ℕ, Bool, true, Option, Some, None, List, ◌++◌, Ok, refl, sym, ap, ◌∙◌, subst, append_assoc, arith, inl, inr}
+use Rattle.std.proofs.Common.{◌≡◌, ℕ, Bool, true, false, Some, List, ◌∷◌, ◌++◌, Ok, Err, refl, sym, ap, ◌∙◌, subst, append_assoc, arith, inl, inr}
+use Rattle.std.specs.Prelude.{OnOk, Result, is_ok, if◌then◌else◌}
 use Rattle.poa_base.specs.declared.Call.{Call}
 use Rattle.poa_base.specs.declared.Head.{Head}
 use Rattle.poa_base.specs.declared.Point.{Point}
 use Rattle.poa_base.specs.declared.Reply.{Reply}
 use Rattle.giop_answer.specs.Reply.{reply_bytes}
-use Rattle.poad_answer.specs.Serving.{IsServing}
+use Rattle.poa_history.specs.Legal.{is_filled}
 use Rattle.poa_history.specs.Life.{Life, with_entry}
-use Rattle.poa_core.specs.Answers.{Steps, Collects, is_taken}
+use Rattle.poa_core.specs.Answers.{Arrives, Steps, Collects, filled_at, filled_by, is_taken}
+use Rattle.poa_core.specs.declared.ArriveFault.{ArriveFault}
+use Rattle.poa_core.specs.declared.ArriveFault.TheVariants.{Limit}
+use Rattle.poa_core.specs.declared.ArriveFault.TheVariants as fault
 use Rattle.poa_core.specs.Fits.{FitsItsCall}
 use Rattle.poa_core.specs.declared.StepOut.{StepOut}
-use Rattle.poad_answer.specs.declared.stop.Stop.{Stop}
-use Rattle.poad_answer.specs.declared.stop.Stop.TheVariants.{NoMemory}
-use Rattle.poad_answer.specs.Service.{Does, GivesReplies, IsReady}
-use Rattle.poad_answer.specs.Stop.{message_limit}
 use Rattle.poa_core.specs.declared.StepOut.TheVariants as step_out
 use Rattle.poa_core.specs.declared.Collected.TheVariants as collected
 use Rattle.replay_run.specs.Collecting.{CollectsAll}
@@ -23,13 +23,14 @@ use Rattle.session_laws.proofs.Calls.{each_none, each_same, each_more, given_ans
 use Rattle.replay_run.proofs.Arrived.{open_still}
 use Rattle.replay_run.proofs.Collected.{Did, did, did_still, collected_one, collected_still}
 use Rattle.poa_base.specs.declared.Config.{Config}
-use Rattle.poa_base.specs.declared.Entry.TheVariants.{Arrive}
+use Rattle.poa_base.specs.declared.Entry.TheVariants.{Arrive, Filled}
 use Rattle.giop_msg.specs.declared.Incoming.{Incoming}
 use Rattle.giop_msg.specs.declared.Incoming.TheVariants as incoming
 use Rattle.replay_run.proofs.Same.{Givens, Still, givens_life, givens_then, same_givens, still_collects}
-use Rattle.poad_answer.specs.declared.service.Service.{Service}
+use Rattle.poad_answer.specs.Meaning.{Answers, GivesBehind}
+use Rattle.poad_answer.specs.Messages.{GivesAsked}
 use Rattle.poad_answer.specs.Run.{life_at_answer}
-use Rattle.poad_answer.specs.Serving.{GivesAsked, Works, works_out, works_on}
+use Rattle.poad_answer.specs.Serving.{GivesCall, GivesReplies, IsServing, Works, by_core, works_out, works_on}
 
 -- what lets no call arrive
 pub serving_still : (old new : Life) → Still old new → IsServing old.history → IsServing new.history
@@ -67,13 +68,10 @@ pub serving_collected : (old new : Life) (r : ℕ) (head : Head) (reply : Reply)
 serving_collected old new r head reply c is = serving_still old new (collected_still 0 old new r head reply c) is
 
 -- the one connection has entered, and no call has arrived
-pub ready_first : (c : Config) (service : Service) → service.core ≡ life_at_answer c → service.framer.limit ≡ message_limit → IsReady service
-ready_first c service is limited = record {
-  serving =
-      subst (λ (l : Life). IsServing l.history) (sym is)
-      (record { stays = record { entered = omega arith; staying = refl }; calls = each_none IsHeaded (life_at_answer c).history (λ r. refl) });
-  limited = limited;
-}
+pub serving_first : (c : Config) (life : Life) → life ≡ life_at_answer c → IsServing life.history
+serving_first c life is =
+    subst (λ (l : Life). IsServing l.history) (sym is)
+    (record { stays = record { entered = omega arith; staying = refl }; calls = each_none IsHeaded (life_at_answer c).history (λ r. refl) })
 
 -- a call of a message arrives
 pub serving_arrived : (size : ℕ) (call : Call) (old new : Life) → new ≡ with_entry (Arrive 0 size call) old → IsHeaded call → IsServing old.history
@@ -96,7 +94,7 @@ works_givens a b (works_on l last e makes more) =
     (works_givens (with_entry e l) last more)
 
 -- what was asked leaves the givens of the run as they are
-pub asked_givens : (a : Life) (asked : Incoming) (size : ℕ) (bytes : List ℕ) (b : Life) → GivesAsked a asked size bytes b → Givens a b
+pub asked_givens : (a : Life) (asked : Incoming) (size : ℕ) (bytes : List ℕ) (b : Life) → GivesAsked GivesCall a asked size bytes b → Givens a b
 asked_givens a (incoming.Call call) size bytes b g =
     (let arrived : Life = with_entry (Arrive 0 size call) a in
     let first : Givens a arrived = record { config = refl; run = refl; limit = refl; opening = refl; going = λ w. refl } in
@@ -118,22 +116,48 @@ did_so old new out point is s serving =
     let t : Steps 0 old (Ok (step_out.Did point)) new = subst (λ (o : StepOut). Steps 0 old (Ok o) new) is s in
     ((λ last more. works_did old new last point t more), serving_did old new point t serving)
 
+-- the run is full from a call on that isn't taken
+filled_so : (full : Bool) (size : ℕ) (old : Life) → IsServing old.history → IsServing (if full then old else with_entry (Filled 0 size) old).history
+filled_so true size old serving = serving
+filled_so false size old serving = record {
+  stays = record { entered = serving.stays.entered; staying = serving.stays.staying };
+  calls = each_same IsHeaded old.history (Filled 0 size ∷ old.history) (λ r. refl) serving.calls;
+}
+
+-- a call that isn't taken
+pub serving_refused : (why : ArriveFault) (call : Call) (size : ℕ) (old new : Life) → Arrives 0 call size old (Err why) new → IsServing old.history
+    → IsServing new.history
+serving_refused (Limit calls bytes) call size old new a serving = serving_same (filled_by 0 size old) new a.1 (filled_so (is_filled old.history) size old serving)
+serving_refused fault.WantMemory call size old new a serving = serving_same old new a.1 serving
+
+pub refused_so : (why : ArriveFault) (call : Call) (size : ℕ) (old new : Life) (before : List ℕ) → Arrives 0 call size old (Err why) new
+    → Answers by_core (Err why) call size old new before before
+refused_so (Limit calls bytes) call size old new before a = (
+  record { untaken = a.0; filled = subst (λ (l : Life). filled_at l.history ≡ Some (calls, bytes)) a.1 a.2 },
+  refl,
+)
+refused_so fault.WantMemory call size old new before a = refl
+
+-- the replies that were collected, behind those that stood there where there is memory for them
+pub replies_given : {X Y : Type 0} (r : Result X Y) (old worked new : Life) (bytes before after : List ℕ) → Works old worked
+    → CollectsAll reply_bytes 0 worked bytes new → after ≡ (if is_ok r then before ++ bytes else before) → OnOk r (GivesReplies old new before after)
+replies_given (Ok done) old worked new bytes before after works collects behind =
+    record { reply = bytes; gives = (worked, (works, collects)); behind = behind }
+replies_given (Err fault) old worked new bytes before after works collects behind = tt
+
 -- a call that arrived, and was served
-pub arrived_does : (stop : Option Stop) (call : Call) (size : ℕ) (old mid new : Service) → is_taken old.core.limit old.core.history size call ≡ true
-    → mid.core ≡ with_entry (Arrive 0 size call) old.core → mid.replies.items ≡ old.replies.items → GivesReplies stop mid new
-    → Does stop (incoming.Call call) size old new
-arrived_does None call size old mid new taken life same g = record {
+pub arrived_gives : (call : Call) (size : ℕ) (old mid new : Life) (before after : List ℕ) → is_taken old.limit old.history size call ≡ true
+    → mid ≡ with_entry (Arrive 0 size call) old → GivesReplies mid new before after → GivesBehind (GivesCall old call size) new before after
+arrived_gives call size old mid new before after taken is g = record {
   reply = g.reply;
   gives = record {
     taken = taken;
     worked = g.gives.0;
-    works = subst (λ (l : Life). Works l g.gives.0) life g.gives.1.0;
+    works = subst (λ (l : Life). Works l g.gives.0) is g.gives.1.0;
     collects = g.gives.1.1;
   };
-  waiting = g.waiting ∙ ap (λ (b : List ℕ). b ++ g.reply) same;
+  behind = g.behind;
 }
-arrived_does (Some NoMemory) call size old mid new taken life same g = g ∙ same
-arrived_does (Some _) call size old mid new taken life same g = absurd g
 
 pub stopped_so : (old new : Life) (out : StepOut) → out ≡ step_out.Stopped → Steps 0 old (Ok out) new → IsServing old.history → Works old new
     × IsServing new.history

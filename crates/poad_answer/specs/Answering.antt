@@ -1,10 +1,9 @@
 -- `answer` by a configuration.
 use Rattle.std.specs.Prelude.{◌≡◌, ℕ, List, Option, None, Some, Result, Ok, Err}
-use Rattle.std.specs.Borrow.{Bor}
 use Rattle.outside.specs.Keeping.{Contents}
 use Rattle.poa_base.specs.declared.Config.{Config}
 use Rattle.poad_files.specs.declared.status.Status.{Status}
-use Rattle.poad_answer.specs.declared.naming.TheConstants.{BUILT_IN}
+use Rattle.poad_answer.specs.declared.configured.TheConstants.{BUILT_IN}
 use Rattle.poad_files.specs.Taking.{ReadsAccepted, TakesConfig}
 use Rattle.poad_answer.specs.Run.{RunAnswers}
 

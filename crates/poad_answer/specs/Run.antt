@@ -1,5 +1,5 @@
 -- What a run of `answer` did, and its status.
-use Rattle.std.specs.Prelude.{◌≡◌, ℕ, ◌^◌, ◌<◌, List, [], ◌++◌, ◌⊎◌, Option, length, take, ⊤}
+use Rattle.std.specs.Prelude.{◌≡◌, ℕ, ◌<◌, List, ◌++◌, Option, take, ⊤}
 use Rattle.outside.specs.Told.{IfTold}
 use Rattle.poa_base.specs.declared.Config.{Config}
 use Rattle.poa_base.specs.declared.Entry.TheVariants.{Entered}
@@ -13,38 +13,25 @@ use Rattle.giop_frame.specs.Stream.{Framed}
 use Rattle.poad_files.specs.declared.status.Status.{Status}
 use Rattle.poad_files.specs.declared.status.Status.TheVariants.{Ok, Malformed, ReadFault, WriteFault, Truncated, Held, Limit, WantMemory, InputLimit}
 use Rattle.poad_answer.specs.declared.stop.Stop.{Stop}
-use Rattle.poad_answer.specs.declared.stop.Stop.TheVariants as stop
-use Rattle.poad_answer.specs.Serving.{MessageGives, Serves}
+use Rattle.poad_answer.specs.declared.end.End.{End}
+use Rattle.poad_answer.specs.declared.end.End.TheVariants as end
+use Rattle.poad_answer.specs.Messages.{MessageGives, Serves}
+use Rattle.poad_answer.specs.Serving.{GivesCall, RefusesCall}
+use Rattle.poad_answer.specs.Source.{IsRead, SourceEnds}
 use Rattle.poad_answer.specs.Stop.{ClosesIn, StopsAt, last_words}
 
--- nothing is left of the source
-abbrev pub IsDrained : Option (List ℕ) → Type 0
-IsDrained left = IfTold left left (λ old new. new ≡ [])
-
--- no message is bad, and so many bytes belong to none
-abbrev pub IsWaiting : Stop → Type 0
-IsWaiting why = (have : ℕ) × (why ≡ stop.Waits have)
-
--- fewer bytes were taken than a run takes at most
-abbrev pub IsBelowLimit : List ℕ → Type 0
-IsBelowLimit got = length got < 2 ^ 32
-
--- the input was read to a CloseConnection, or to its end with nothing left over
-abbrev pub IsRead : Stop → List ℕ → Option (List ℕ) → Type 0
-IsRead why got left = (why ≡ stop.Closed) ⊎ ((why ≡ stop.Waits 0) × IsDrained left × IsBelowLimit got)
-
 -- why a run ends with a status: `got` was taken of the source, serving it stopped for this reason, and so many calls
--- are unadmitted. Where no message ends the run, it is the limit of the input exactly where that was taken
+-- are unadmitted
 abbrev pub RunEnds : Status → Stop → ℕ → List ℕ → Option (List ℕ) → Type 0
 RunEnds Ok why held got left = IsRead why got left × (held ≡ 0)
 RunEnds (Held count) why held got left = IsRead why got left × (count ≡ held) × (0 < held)
-RunEnds (Truncated have) why held got left = (why ≡ stop.Waits have) × (0 < have) × IsDrained left × IsBelowLimit got
-RunEnds (Malformed at) why held got left = why ≡ stop.Refused at
-RunEnds (Limit calls bytes) why held got left = why ≡ stop.Full calls bytes
-RunEnds (InputLimit taken) why held got left = IsWaiting why × (taken ≡ length got) × (taken ≡ 2 ^ 32)
-RunEnds ReadFault why held got left = IsWaiting why × IsBelowLimit got
-RunEnds WriteFault why held got left = ⊤
-RunEnds WantMemory why held got left = ⊤
+RunEnds (Truncated have) why held got left = SourceEnds (end.Truncated have) why got left
+RunEnds (Malformed at) why held got left = SourceEnds (end.Malformed at) why got left
+RunEnds (Limit calls bytes) why held got left = SourceEnds (end.Full calls bytes) why got left
+RunEnds (InputLimit taken) why held got left = SourceEnds (end.InputLimit taken) why got left
+RunEnds ReadFault why held got left = SourceEnds end.ReadFault why got left
+RunEnds WriteFault why held got left = SourceEnds end.WriteFault why got left
+RunEnds WantMemory why held got left = SourceEnds end.WantMemory why got left
 RunEnds _ why held got left = ⊥
 
 -- the sink gained these bytes, or after a fault of writing or want of memory a front of them
@@ -74,11 +61,28 @@ pub record RunAnswers (c : Config) (status : Status) (left_old left_new held_old
   pub messages : List Framed
   pub replies : List ℕ
   pub life : Life
-  pub served : Serves MessageGives (life_at_answer c) messages replies life
+  pub served : Serves (MessageGives GivesCall) (life_at_answer c) messages replies life
   pub why : Stop
-  pub stops : StopsAt why life got messages
+  pub stops : StopsAt (RefusesCall life) why got messages
   pub minor : ℕ
   pub closes : ClosesIn why got minor
   pub gave : IfTold held_old held_new (Gains status (replies ++ last_words minor why))
   pub ends : RunEnds status why (unadmitted life.history) got left_new
   pub kept : IsKeptBy status c life
+
+-- the status where the input was read whole, which says whether calls are unadmitted
+abbrev pub TellsHeld : Status → ℕ → Type 0
+TellsHeld Ok held = held ≡ 0
+TellsHeld (Held count) held = (count ≡ held) × (0 < held)
+TellsHeld _ held = ⊥
+
+-- the status of such an end, where so many calls are unadmitted
+abbrev pub TellsEnd : End → Status → ℕ → Type 0
+TellsEnd end.Read status held = TellsHeld status held
+TellsEnd end.ReadFault status held = status ≡ ReadFault
+TellsEnd end.WriteFault status held = status ≡ WriteFault
+TellsEnd (end.Malformed at) status held = status ≡ Malformed at
+TellsEnd (end.Full calls bytes) status held = status ≡ Limit calls bytes
+TellsEnd (end.Truncated have) status held = status ≡ Truncated have
+TellsEnd (end.InputLimit taken) status held = status ≡ InputLimit taken
+TellsEnd end.WantMemory status held = status ≡ WantMemory

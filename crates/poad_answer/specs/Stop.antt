@@ -1,5 +1,5 @@
 -- How far a server comes in a stream, and what stops it.
-use Rattle.std.specs.Prelude.{◌≡◌, ℕ, List, [], ◌∷◌, ◌++◌, ◌⊎◌, Bool, Some, Ok, Err, true, false, length}
+use Rattle.std.specs.Prelude.{◌≡◌, ℕ, List, [], ◌∷◌, ◌++◌, ◌⊎◌, Bool, Ok, Err, true, false, length}
 use Rattle.poa_base.specs.declared.Call.{Call}
 use Rattle.giop_frame.specs.declared.Why.{Why}
 use Rattle.giop_frame.specs.Stream.{Framed, End, Stream, IsFirstMinor, left_over, bad_place}
@@ -8,14 +8,9 @@ use Rattle.giop_msg.specs.declared.Incoming.TheVariants.{Closing, Call as Incomi
 use Rattle.giop_msg.specs.declared.MsgFault.TheVariants as fault
 use Rattle.giop_msg.specs.Call.{CallOf}
 use Rattle.giop_answer.specs.Outgoing.{framed}
-use Rattle.poa_history.specs.Life.{Life}
-use Rattle.poa_core.specs.Answers.{is_taken, filled_by, filled_at}
+pub use Rattle.session_laws.specs.Hearing.{message_limit}
 use Rattle.poad_answer.specs.declared.stop.Stop.{Stop}
 use Rattle.poad_answer.specs.declared.stop.Stop.TheVariants.{Waits, Closed, Refused, Full, NoMemory}
-
--- the size of a message is at most this
-abbrev pub message_limit : ℕ
-message_limit = 1048576
 
 -- the stream of the text begins with these messages
 pub record Begins (text : List ℕ) (messages : List Framed) : Type 0 where
@@ -42,20 +37,19 @@ IsBadMessage at message = (message.at ≡ at) × (CallOf message.bytes (Err faul
 abbrev pub IsClosing : Framed → Type 0
 IsClosing message = CallOf message.bytes (Ok Closing)
 
--- a message whose call the run refuses: so many calls, and bytes of them, arrived before
-pub record IsRefused (life : Life) (calls bytes : ℕ) (message : Framed) : Type 0 where
+-- a message whose call is refused, where calls are refused so: so many calls, and bytes of them, had arrived
+pub record IsRefused (Refuses : Call → ℕ → ℕ → ℕ → Type 0) (calls bytes : ℕ) (message : Framed) : Type 0 where
   pub call : Call
   pub asks : CallOf message.bytes (Ok (IncomingCall call))
-  pub refused : is_taken life.limit life.history (length message.bytes) call ≡ false
-  pub filled : filled_at (filled_by 0 (length message.bytes) life).history ≡ Some (calls, bytes)
+  pub refused : Refuses call (length message.bytes) calls bytes
 
--- a server that served these messages of the stream, which left this run, stops for this reason
-abbrev pub StopsAt : Stop → Life → List ℕ → List Framed → Type 0
-StopsAt (Waits have) life text messages = Stream message_limit text messages (left_over have)
-StopsAt Closed life text messages = Comes text messages IsClosing
-StopsAt (Refused at) life text messages = IsBadPlace text messages at ⊎ Comes text messages (IsBadMessage at)
-StopsAt (Full calls bytes) life text messages = Comes text messages (IsRefused life calls bytes)
-StopsAt NoMemory life text messages = Begins text messages
+-- a server that served these messages of the stream stops for this reason, where it then refuses calls so
+abbrev pub StopsAt : (Call → ℕ → ℕ → ℕ → Type 0) → Stop → List ℕ → List Framed → Type 0
+StopsAt Refuses (Waits have) text messages = Stream message_limit text messages (left_over have)
+StopsAt Refuses Closed text messages = Comes text messages IsClosing
+StopsAt Refuses (Refused at) text messages = IsBadPlace text messages at ⊎ Comes text messages (IsBadMessage at)
+StopsAt Refuses (Full calls bytes) text messages = Comes text messages (IsRefused Refuses calls bytes)
+StopsAt Refuses NoMemory text messages = Begins text messages
 
 -- MessageError of a minor version (CORBA 3.3 Part 2, 9.4.8)
 abbrev pub message_error : ℕ → List ℕ

@@ -4,7 +4,7 @@ use Rattle.giop_frame.specs.Stream.{End, Framed, Stream, left_over}
 use Rattle.giop_msg.specs.declared.Incoming.{Incoming}
 use Rattle.giop_msg.specs.declared.Incoming.TheVariants.{Closing}
 use Rattle.giop_msg.specs.Call.{CallOf}
-use Rattle.poad_answer.specs.NamesStop.{IsClosing, message_limit}
+use Rattle.poad_answer.specs.Stop.{IsClosing, message_limit}
 
 -- a message that is a call or a CancelRequest
 pub record IsAsking (message : Framed) : Type 0 where

@@ -1,26 +1,20 @@
-//! `answer`: the loop over the source.
-ghost use Rattle.std.specs.Prelude.{◌≡◌, ◌+◌, ◌^◌, ◌<◌, false, ◌≢◌, [], length, None, Some};
+//! `answer`: a run of a configuration serves a source.
+ghost use Rattle.std.specs.Prelude.{◌≡◌, false, IfOk};
 ghost use Rattle.outside.specs.Cause.{HasCause};
-ghost use Rattle.outside.specs.Reading.{IsWithin, Delivers};
-ghost use Rattle.outside.specs.Told.{IfTold};
-ghost use Rattle.poad_answer.specs.Run.{RunAnswers};
-ghost use Rattle.giop_frame.specs.Framer.{reach};
-ghost use Rattle.poa_policy.specs.Kept.{KeepsRules};
 ghost use Rattle.poa_core.specs.Answers.{unadmitted};
-ghost use Rattle.poad_answer.specs.Service.{IsReady};
-ghost use Rattle.poad_answer.specs.Piece.{TakesPiece, EndsAt};
+ghost use Rattle.poa_policy.specs.Kept.{KeepsRules};
+ghost use Rattle.poad_answer.specs.Run.{RunAnswers, TellsEnd, TellsHeld, life_at_answer};
+ghost use Rattle.poad_answer.specs.Serving.{IsLegalRun};
 
+use crate::end::End;
 use crate::service::Service;
-use outside::{Sink, Source, Took};
-use poa_base::Config;
+use crate::source::serve_source;
+use outside::{Sink, Source};
+use poa_base::limits::CALLS;
+use poa_base::{Config, Store, WantMemory};
+use poa_core::Core;
 use poad_files::Status;
 use std::alloc::Global;
-
-/// How much a read takes at most.
-const PIECE: usize = 65_536;
-
-/// How much a run takes of its source at most.
-const INPUT_LIMIT: u64 = 1 << 32;
 
 /// Serves the messages of the source in order, by a run of a configuration, and writes the replies that a piece of
 /// input owes before it reads the next piece. Where a message is bad MessageError follows the replies, and where
@@ -40,86 +34,52 @@ pub(crate) fn answer<S: Source, K: Sink>(
     ensures written { HasCause (K.write_faults sink.old) (K.write_faults sink.new)
         (result ≡ Status.WriteFault) }
 {
-    let Ok(mut buffer) = Vec::from_elem(alloc, 0u8, PIECE) else {
+    let Ok(core) = entered(alloc, config) else {
         return Status::WantMemory;
     };
-    let Ok(mut service) = Service::new(alloc, config) else {
-        return Status::WantMemory;
+    let mut service = Service::new(alloc, core);
+    let end = serve_source(alloc, &mut service, source, sink);
+    status_of(end, &service.answerer)
+}
+
+// The run of a configuration, once its one connection has entered.
+fn entered(alloc: Global, config: Config) -> Result<Core, WantMemory>
+    requires rules { KeepsRules config }
+    ensures life { IfOk result (λ core. core ≡ life_at_answer config) }
+    ensures legal { IfOk result (λ core. IsLegalRun core) }
+{
+    let run = config.run;
+    let mut core = Core::new(alloc, config, run, Store::new(alloc), CALLS)?;
+    let Ok(_) = core.enter() else {
+        return Err(WantMemory);
     };
     // For its clauses: the history so far is legal.
-    service.core.keeps_laws();
-    let mut taken = 0;
-    while taken < INPUT_LIMIT {
-        match read_front(source, &mut buffer, INPUT_LIMIT - taken) {
-            Took::Got(count) => {
-                taken += count as u64;
-                if let Some(status) = take_piece(alloc, &mut service, &buffer[..count], sink) {
-                    return status;
-                }
-            }
-            Took::End => return ended(&service),
-            Took::Failed => return Status::ReadFault,
-            // Never comes, since the source doesn't wait.
-            Took::Quiet => return Status::ReadFault,
-        }
+    core.keeps_laws();
+    Ok(core)
+}
+
+// The status of a run whose source was served to this end.
+fn status_of(end: End, core: &Core) -> Status
+    ensures { TellsEnd end result (unadmitted core.now.history) }
+{
+    match end {
+        End::Read => read_whole(core),
+        End::ReadFault => Status::ReadFault,
+        End::WriteFault => Status::WriteFault,
+        End::Malformed { at } => Status::Malformed { at },
+        End::Full { arrivals, bytes } => Status::Limit { arrivals, bytes },
+        End::Truncated { have } => Status::Truncated { have },
+        End::InputLimit { taken } => Status::InputLimit { taken },
+        End::WantMemory => Status::WantMemory,
     }
-    Status::InputLimit { taken }
 }
 
-// Reads no more than `most` bytes into the front of the buffer.
-fn read_front<S: Source>(source: &mut S, buffer: &mut [u8], most: u64) -> Took
-    requires some { 0 < length buffer.old }
-    requires allowed { 0 < most }
-    requires patient { S.is_waiting source.old ≡ false }
-    ensures within { IsWithin result (length buffer.old) }
-    ensures most { IsWithin result most }
-    ensures bytes { IfTold (S.left source.old) (S.left source.new) (Delivers result buffer.new) }
-    ensures patient { S.is_waiting source.new ≡ false }
-    ensures failed { HasCause (S.read_faults source.old) (S.read_faults source.new)
-        (result ≡ Took.Failed) }
-    ensures loud { result ≢ Took.Quiet }
+// The status where the input was read whole: it says whether calls are unadmitted.
+fn read_whole(core: &Core) -> Status
+    ensures { TellsHeld result (unadmitted core.now.history) }
 {
-    let room = most.min(buffer.len() as u64) as usize;
-    source.read(&mut buffer[..room])
-}
-
-// Serves the messages that a piece makes whole and writes their replies. A status where the run ends.
-fn take_piece<K: Sink>(
-    alloc: Global,
-    service: &mut Service,
-    piece: &[u8],
-    sink: &mut K,
-) -> Option<Status>
-    requires room { reach service.old.framer + length piece.now < 2 ^ 62 }
-    requires delivered { service.old.replies.items ≡ [] }
-    requires ready { IsReady service.old }
-    ensures takes { TakesPiece result piece.now service.old service.new (K.held sink.old)
-        (K.held sink.new) }
-    ensures written { HasCause (K.write_faults sink.old) (K.write_faults sink.new)
-        (result ≡ Some Status.WriteFault) }
-    ensures ready { result ≡ None → IsReady service.new }
-{
-    // For its clauses: the history so far is legal.
-    service.core.keeps_laws();
-    let Ok(()) = service.framer.feed(piece) else {
-        return Some(Status::WantMemory);
-    };
-    let why = service.serve(alloc);
-    let Ok(minor) = service.closing_minor(why) else {
-        return Some(Status::WantMemory);
-    };
-    if !service.write_replies(why, minor, sink) {
-        return Some(Status::WriteFault);
-    }
-    service.settle(why)
-}
-
-// The status at the end of the source.
-fn ended(service: &Service) -> Status
-    ensures { EndsAt result service.now.waiting (unadmitted service.now.core.history) }
-{
-    match service.waiting {
-        0 => service.read_whole(),
-        have => Status::Truncated { have },
+    match core.unadmitted() {
+        0 => Status::Ok,
+        count => Status::Held { count },
     }
 }

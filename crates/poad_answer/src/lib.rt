@@ -2,16 +2,19 @@
 //! a configuration with one connection and one worker, `names` by naming contexts.
 #![tactic(auto)]
 
+mod answerer;
 mod answering;
+mod configured;
+mod contexts_answerer;
+mod core_answerer;
+mod end;
 mod names_end;
 mod names_run;
-mod names_service;
-mod names_stop;
-mod naming;
 mod service;
+mod source;
 mod stop;
 mod turns;
 
+pub use configured::{BUILT_IN, answer_by, the_built_in_text_is_accepted};
 pub use names_end::NamesEnd;
 pub use names_run::names;
-pub use naming::{BUILT_IN, answer_by, the_built_in_text_is_accepted};

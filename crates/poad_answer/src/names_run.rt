@@ -1,25 +1,17 @@
-//! `names`: the loop over the source.
-ghost use Rattle.std.specs.Prelude.{◌≡◌, ◌⊎◌, ◌+◌, ◌^◌, ◌<◌, false, ◌≢◌, [], length, None, Some};
+//! `names`: naming contexts serve a source.
+ghost use Rattle.std.specs.Prelude.{◌≡◌, ◌⊎◌, ℕ, false, ◌≢◌};
 ghost use Rattle.std.specs.Option.{IsSomeAnd};
 ghost use Rattle.outside.specs.Cause.{HasCause, Rose};
-ghost use Rattle.outside.specs.Reading.{IsWithin, Delivers};
-ghost use Rattle.outside.specs.Told.{IfTold};
-ghost use Rattle.giop_frame.specs.Framer.{reach};
-ghost use Rattle.poad_answer.specs.NamesRun.{RunNames};
-ghost use Rattle.poad_answer.specs.NamesService.{IsReady};
-ghost use Rattle.poad_answer.specs.NamesPiece.{TakesPiece, EndsAt};
+ghost use Rattle.poad_answer.specs.NamesRun.{RunNames, end_of};
 ghost use Rattle.poad_answer.specs.Whole.{IsWholeInput};
 
+use crate::end::End;
 use crate::names_end::NamesEnd;
-use crate::names_service::Service;
-use outside::{Sink, Source, Took};
+use crate::service::Service;
+use crate::source::serve_source;
+use naming_context::Contexts;
+use outside::{Sink, Source};
 use std::alloc::Global;
-
-/// How much a read takes at most.
-const PIECE: usize = 65_536;
-
-/// How much a run takes of its source at most.
-const INPUT_LIMIT: u64 = 1 << 32;
 
 /// Serves the messages of the source in order, by naming contexts of which context 0 alone is there at first, with nothing
 /// bound, and writes the replies that a piece of input owes before it reads the next piece. Where a message is bad
@@ -47,11 +39,11 @@ pub fn names<S: Source, K: Sink>(alloc: Global, source: &mut S, sink: &mut K) ->
         → IsSomeAnd (S.left source.old) IsWholeInput
         → (result ≡ NamesEnd.Ended) ⊎ (result ≡ NamesEnd.WantMemory) }
 {
-    serve_source(alloc, source, sink)
+    serve_names(alloc, source, sink)
 }
 
-// The same, piece by piece.
-fn serve_source<S: Source, K: Sink>(alloc: Global, source: &mut S, sink: &mut K) -> NamesEnd
+// The same, without what it takes to end well.
+fn serve_names<S: Source, K: Sink>(alloc: Global, source: &mut S, sink: &mut K) -> NamesEnd
     requires patient { S.is_waiting source.old ≡ false }
     ensures names { RunNames result (S.left source.old) (S.left source.new) (K.held sink.old)
         (K.held sink.new) }
@@ -60,80 +52,24 @@ fn serve_source<S: Source, K: Sink>(alloc: Global, source: &mut S, sink: &mut K)
     ensures written { HasCause (K.write_faults sink.old) (K.write_faults sink.new)
         (result ≡ NamesEnd.WriteFault) }
 {
-    let Ok(mut buffer) = Vec::from_elem(alloc, 0u8, PIECE) else {
-        return NamesEnd::WantMemory;
-    };
-    let mut service = Service::new(alloc);
-    let mut taken = 0;
-    while taken < INPUT_LIMIT {
-        match read_front(source, &mut buffer, INPUT_LIMIT - taken) {
-            Took::Got(count) => {
-                taken += count as u64;
-                if let Some(end) = take_piece(alloc, &mut service, &buffer[..count], sink) {
-                    return end;
-                }
-            }
-            Took::End => return ended(&service),
-            Took::Failed => return NamesEnd::ReadFault,
-            // Never comes, since the source doesn't wait.
-            Took::Quiet => return NamesEnd::ReadFault,
-        }
-    }
-    NamesEnd::InputLimit { taken }
+    let mut service = Service::new(alloc, Contexts::new(alloc));
+    let end = serve_source(alloc, &mut service, source, sink);
+    names_end(end)
 }
 
-// Reads no more than `most` bytes into the front of the buffer.
-fn read_front<S: Source>(source: &mut S, buffer: &mut [u8], most: u64) -> Took
-    requires some { 0 < length buffer.old }
-    requires allowed { 0 < most }
-    requires patient { S.is_waiting source.old ≡ false }
-    ensures within { IsWithin result (length buffer.old) }
-    ensures most { IsWithin result most }
-    ensures bytes { IfTold (S.left source.old) (S.left source.new) (Delivers result buffer.new) }
-    ensures patient { S.is_waiting source.new ≡ false }
-    ensures failed { HasCause (S.read_faults source.old) (S.read_faults source.new)
-        (result ≡ Took.Failed) }
-    ensures loud { result ≢ Took.Quiet }
+// The same end: contexts refuse no call.
+fn names_end(end: End) -> NamesEnd
+    requires { (calls : ℕ) (bytes : ℕ) → end ≢ End.Full calls bytes }
+    ensures { end_of result ≡ end }
 {
-    let room = most.min(buffer.len() as u64) as usize;
-    source.read(&mut buffer[..room])
-}
-
-// Serves the messages that a piece makes whole and writes their replies. How the run ends, where it does.
-fn take_piece<K: Sink>(
-    alloc: Global,
-    service: &mut Service,
-    piece: &[u8],
-    sink: &mut K,
-) -> Option<NamesEnd>
-    requires room { reach service.old.framer + length piece.now < 2 ^ 62 }
-    requires delivered { service.old.replies.items ≡ [] }
-    requires ready { IsReady service.old }
-    ensures takes { TakesPiece result piece.now service.old service.new (K.held sink.old)
-        (K.held sink.new) }
-    ensures written { HasCause (K.write_faults sink.old) (K.write_faults sink.new)
-        (result ≡ Some NamesEnd.WriteFault) }
-    ensures ready { result ≡ None → IsReady service.new }
-{
-    let Ok(()) = service.framer.feed(piece) else {
-        return Some(NamesEnd::WantMemory);
-    };
-    let why = service.serve(alloc);
-    let Ok(minor) = service.closing_minor(why) else {
-        return Some(NamesEnd::WantMemory);
-    };
-    if !service.write_replies(why, minor, sink) {
-        return Some(NamesEnd::WriteFault);
-    }
-    service.settle(why)
-}
-
-// How the run ends at the end of the source.
-fn ended(service: &Service) -> NamesEnd
-    ensures { EndsAt result service.now.waiting }
-{
-    match service.waiting {
-        0 => NamesEnd::Ended,
-        have => NamesEnd::Truncated { have },
+    match end {
+        End::Read => NamesEnd::Ended,
+        End::ReadFault => NamesEnd::ReadFault,
+        End::WriteFault => NamesEnd::WriteFault,
+        End::Malformed { at } => NamesEnd::Malformed { at },
+        End::Full { .. } => unreachable!(),
+        End::Truncated { have } => NamesEnd::Truncated { have },
+        End::InputLimit { taken } => NamesEnd::InputLimit { taken },
+        End::WantMemory => NamesEnd::WantMemory,
     }
 }

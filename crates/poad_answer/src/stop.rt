@@ -9,7 +9,7 @@ pub(crate) enum Stop {
     Closed,
     /// A bad place or message, or one that isn't for a server, starts here.
     Refused { at: u64 },
-    /// The call of a message is refused for the limits of the run: so many calls, and bytes of them, had arrived.
+    /// The call of a message is refused: so many calls, and bytes of them, had arrived.
     Full { arrivals: u64, bytes: u64 },
     /// No memory was left.
     NoMemory,

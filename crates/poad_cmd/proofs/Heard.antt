@@ -14,7 +14,8 @@ use Rattle.history_standing.specs.Arrivals.{arrived_bytes, arrivals}
 use Rattle.poa_history.specs.Legal.{had_shutdown, is_filled, is_shutdown}
 use Rattle.poa_history.specs.Life.{Life, with_entry}
 use Rattle.poa_history.specs.Limits.{has_room, is_taken}
-use Rattle.poad_answer.specs.Serving.{GivesAsked, MessageGives, Serves}
+use Rattle.poad_answer.specs.Messages.{GivesAsked, MessageGives, Serves}
+use Rattle.poad_answer.specs.Serving.{GivesCall}
 use Rattle.poad_cmd.specs.Complete.{bytes_in}
 use Rattle.poad_cmd.proofs.Counting.{SameCounts, collects_counts, counts_then, works_counts}
 use Rattle.session_laws.specs.Hearing.{Heard, HeardFrom, HeardIn, Stop}
@@ -36,7 +37,7 @@ behind_none a b calls rest end stop same heard =
 
 -- behind a message that was served
 behind_one : (m : Framed) (rest : List Framed) (end : End) (calls : List Heard) (stop : Stop) (a : Life) (reply : List ℕ) (b : Life) (asked : Incoming)
-    → GivesAsked a asked (length m.bytes) reply b → HeardFrom m (Ok asked) (HeardIn rest end) calls stop → Behind a b calls rest end stop
+    → GivesAsked GivesCall a asked (length m.bytes) reply b → HeardFrom m (Ok asked) (HeardIn rest end) calls stop → Behind a b calls rest end stop
 behind_one m rest end calls stop a reply b (incoming.Call call) gives heard =
     (let same : SameCounts (with_entry (Arrive 0 (length m.bytes) call) a) b =
     counts_then (with_entry (Arrive 0 (length m.bytes) call) a) gives.worked b
@@ -67,10 +68,10 @@ behind_then a b c calls others rest end stop p q = record {
 
 -- behind those that were served
 pub behind_served : (messages rest : List Framed) (end : End) (calls : List Heard) (stop : Stop) (a : Life) (replies : List ℕ) (b : Life)
-    → Serves MessageGives a messages replies b → HeardIn (messages ++ rest) end calls stop → Behind a b calls rest end stop
+    → Serves (MessageGives GivesCall) a messages replies b → HeardIn (messages ++ rest) end calls stop → Behind a b calls rest end stop
 behind_served [] rest end calls stop a replies b served heard = behind_none a b calls rest end stop served.1 heard
 behind_served (m ∷ ms) rest end calls stop a replies b served heard =
-    let gives : MessageGives a m served.0 served.1.0 = served.1.1.1.0 in
+    let gives : MessageGives GivesCall a m served.0 served.1.0 = served.1.1.1.0 in
     let same : heard.0 ≡ Ok gives.asked = one_call m.bytes heard.0 (Ok gives.asked) heard.1 gives.asks in
     let one : Behind a served.1.0 calls (ms ++ rest) end stop =
     behind_one m (ms ++ rest) end calls stop a served.0 served.1.0 gives.asked gives.gives

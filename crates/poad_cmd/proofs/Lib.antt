@@ -4,7 +4,6 @@ pub mod Statuses
 pub mod Telling
 pub mod Opening
 pub mod Kept
-pub mod Longer
 pub mod Counting
 pub mod Heard
 pub mod Wholly

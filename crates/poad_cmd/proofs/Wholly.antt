@@ -12,11 +12,13 @@ use Rattle.giop_msg.proofs.Calls.{one_call}
 use Rattle.history_standing.specs.Arrivals.{arrived_bytes, arrivals}
 use Rattle.poa_base.specs.declared.Config.{Config}
 use Rattle.poa_core.specs.Answers.{unadmitted}
-use Rattle.poad_answer.specs.Run.{IsRead, RunAnswers, life_at_answer}
+use Rattle.poad_answer.specs.Run.{RunAnswers, life_at_answer}
+use Rattle.poad_answer.specs.Serving.{RefusesCall}
+use Rattle.poad_answer.specs.Source.{IsRead}
 use Rattle.poad_answer.specs.Stop.{Begins, Comes, IsBadMessage, IsBadPlace, IsClosing, IsRefused, StopsAt, message_limit}
 use Rattle.poad_cmd.specs.Complete.{IsWholeInput, bytes_in}
 use Rattle.poad_cmd.proofs.Heard.{Behind, behind_served, taken}
-use Rattle.poad_cmd.proofs.Longer.{begins_longer, comes_longer}
+use Rattle.poad_answer.proofs.Longer.{begins_longer, comes_longer}
 use Rattle.poad_files.specs.declared.status.Status.{Status}
 use Rattle.poad_files.specs.declared.status.Status.TheVariants.{FileFault, Held, InputLimit, Limit, Malformed, Ok, ReadFault, Truncated, WantMemory, WriteFault}
 use Rattle.session_laws.specs.Hearing.{Heard, HeardFrom, HeardIn, HearsMessages, Stop, bad, closed, over}
@@ -106,7 +108,7 @@ module _ (c : Config) (text : List ℕ) (whole : IsWholeInput c text) (stop : St
     never_malformed at (inr come) = never_bad_message at come
 
     -- a call behind them has room
-    never_refused : (calls bytes : ℕ) → Comes run.got run.messages (IsRefused run.life calls bytes) → ⊥
+    never_refused : (calls bytes : ℕ) → Comes run.got run.messages (IsRefused (RefusesCall run.life) calls bytes) → ⊥
     never_refused calls bytes come =
         let n = next come.message come.begins in
         let same = one_call come.message.bytes n.it.heard.0 (OkResult (incoming.Call come.is.call)) n.it.heard.1 come.is.asks in
@@ -121,7 +123,7 @@ module _ (c : Config) (text : List ℕ) (whole : IsWholeInput c text) (stop : St
         let least : bytes_in whole.calls ≤ 2 ^ 30 = whole.small in
         true≢false
         (sym (taken run.life (length come.message.bytes) come.is.call n.it.filled (omega (arith, some, few, limit, most)) (omega (arith, sized, small, least)))
-        ∙ come.is.refused)
+        ∙ come.is.refused.untaken)
 
     got_all : rest ≡ [] → text ≡ run.got
     got_all none = run.took ∙ (ap (λ (back : List ℕ). run.got ++ back) none ∙ append-nil run.got)
@@ -136,11 +138,11 @@ module _ (c : Config) (text : List ℕ) (whole : IsWholeInput c text) (stop : St
     -- where it was read to its end nothing is unadmitted
     none_held : IsRead run.why run.got (Some rest) → unadmitted run.life.history ≡ 0
     none_held (inl at_closing) =
-        (let come : Comes run.got run.messages IsClosing = subst (λ w. StopsAt w run.life run.got run.messages) at_closing run.stops in
+        (let come : Comes run.got run.messages IsClosing = subst (λ w. StopsAt (RefusesCall run.life) w run.got run.messages) at_closing run.stops in
         whole.admitted run.messages run.replies run.life run.served
         (inl (subst (λ (t : List ℕ). Comes t run.messages IsClosing) (sym run.took) (comes_longer run.got rest run.messages IsClosing come))))
     none_held (inr at_end) =
-        (let stream : Stream message_limit run.got run.messages (left_over 0) = subst (λ w. StopsAt w run.life run.got run.messages) at_end.0 run.stops in
+        (let stream : Stream message_limit run.got run.messages (left_over 0) = subst (λ w. StopsAt (RefusesCall run.life) w run.got run.messages) at_end.0 run.stops in
         whole.admitted run.messages run.replies run.life run.served
         (inr (subst (λ (t : List ℕ). Stream message_limit t run.messages (left_over 0)) (sym (got_all at_end.1)) stream)))
 
@@ -160,10 +162,10 @@ module _ (c : Config) (text : List ℕ) (whole : IsWholeInput c text) (stop : St
   ends_well WriteFault run = tt
   ends_well (Held count) run = never_held (Held count) run count run.ends.0 run.ends.1 run.ends.2
   ends_well (Truncated have) run =
-      never_truncated (Truncated have) run have (subst (λ w. StopsAt w run.life run.got run.messages) run.ends.0 run.stops) run.ends.2 run.ends.1
-  ends_well (Malformed at) run = never_malformed (Malformed at) run at (subst (λ w. StopsAt w run.life run.got run.messages) run.ends run.stops)
+      never_truncated (Truncated have) run have (subst (λ w. StopsAt (RefusesCall run.life) w run.got run.messages) run.ends.0 run.stops) run.ends.2 run.ends.1
+  ends_well (Malformed at) run = never_malformed (Malformed at) run at (subst (λ w. StopsAt (RefusesCall run.life) w run.got run.messages) run.ends run.stops)
   ends_well (Limit calls bytes) run =
-      never_refused (Limit calls bytes) run calls bytes (subst (λ w. StopsAt w run.life run.got run.messages) run.ends run.stops)
+      never_refused (Limit calls bytes) run calls bytes (subst (λ w. StopsAt (RefusesCall run.life) w run.got run.messages) run.ends run.stops)
   ends_well (InputLimit n) run = short_of_limit (InputLimit n) run n run.ends.1 run.ends.2
   ends_well _ run = absurd run.ends
 

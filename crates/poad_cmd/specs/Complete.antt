@@ -20,9 +20,10 @@ use Rattle.poa_history.specs.Life.{Life}
 use Rattle.poa_history.specs.Limits.{filled_at}
 use Rattle.poa_journal.specs.Whole.{Contents as JournalContents, contents_of}
 use Rattle.poad_answer.specs.Run.{life_at_answer}
-use Rattle.poad_answer.specs.Serving.{MessageGives, Serves}
+use Rattle.poad_answer.specs.Messages.{MessageGives, Serves}
+use Rattle.poad_answer.specs.Serving.{GivesCall}
 use Rattle.poad_answer.specs.Stop.{Comes, IsClosing, message_limit}
-use Rattle.poad_answer.specs.declared.naming.TheConstants.{BUILT_IN}
+use Rattle.poad_answer.specs.declared.configured.TheConstants.{BUILT_IN}
 use Rattle.journal_audit.specs.Matching.{LinkBytes, IsSession}
 use Rattle.journal_audit.specs.Texts.{givens_in}
 use Rattle.poad_audit.specs.Auditing.{journal_limit, link_limit}
@@ -89,7 +90,7 @@ pub record IsWholeInput (c : Config) (text : List ℕ) : Type 0 where
   pub few : length calls ≤ 4000000
   pub small : bytes_in calls ≤ 2 ^ 30
   pub admitted : (messages : List Framed) (replies : List ℕ) (life : Life)
-      → Serves MessageGives (life_at_answer c) messages replies life
+      → Serves (MessageGives GivesCall) (life_at_answer c) messages replies life
       → Comes text messages IsClosing ⊎ Stream message_limit text messages (left_over 0) → unadmitted life.history ≡ 0
 
 -- a script that, played on the configuration, meets no limit and leaves no call unadmitted

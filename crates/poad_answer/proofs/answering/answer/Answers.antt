@@ -1,107 +1,29 @@
--- The run between two pieces, and each of its ends.
-use Rattle.std.proofs.Common.{take, Some, refl, ap, subst, arith}
-use Rattle.poad_files.specs.declared.status.Status.{Status}
-use Rattle.poad_answer.specs.Piece.{EndsPiece, EndsAt}
-use Rattle.std.proofs.lemmas.List.{length-take-le}
-use Rattle.poad_files.proofs.Causes.{cause_still, cause_from}
-use Rattle.poa_core.specs.Answers.{unadmitted}
-use Rattle.poad_answer.proofs.Worked.{ready_first}
-use Rattle.poad_answer.proofs.Running.{run_starts, run_still, run_goes_on, run_ends, run_fails, run_limited, run_finished, run_refused, piece_same, end_still, end_left, cut_piece}
+-- The run was begun, or not; and served the source.
+use Rattle.poad_files.proofs.Causes.{cause_from}
+use Rattle.std.proofs.Common.{sym, ◌∙◌, subst, arith}
+use Rattle.poad_answer.specs.Serving.{IsLegalRun}
+use Rattle.poad_answer.proofs.Answered.{answered, answered_none, read_fault_so, write_fault_so}
+use Rattle.poad_answer.proofs.Worked.{serving_first}
 use Rattle.poad_answer.proofs.answering.answer.Goals as goal
 
 pub returns-in_default-clause-answers : goal.returns-in_default-clause-answers
-returns-in_default-clause-answers g c = run_refused _ _ _
+returns-in_default-clause-answers g c = answered_none c.args.config _ _
 
-pub returns-in_default-new-clause-answers : goal.returns-in_default-new-clause-answers
-returns-in_default-new-clause-answers g c = run_refused _ _ _
-
-pub loop-taken-init : goal.loop-taken-init
-loop-taken-init g c = record {
-  runs = run_starts _ _ _ c.in-Ok-new.service c.in-Ok-new.ensures.served c.in-Ok-new.ensures.first c.in-Ok-new.ensures.reached c.in-Ok-new.ensures.core c.in-Ok-new.ensures.replies
-      c.in-Ok-new.ensures.waiting
-      (record {
-        legal = c.keeps_laws.ensures.legal;
-        lifetime = c.keeps_laws.ensures.lifetime;
-        undone = c.keeps_laws.ensures.undone;
-        updates = c.keeps_laws.ensures.updates;
-      });
-  ready = ready_first c.args.config c.in-Ok-new.service c.in-Ok-new.ensures.core c.in-Ok-new.ensures.limited;
-  within = omega arith;
-  room_is = c.in-Ok.ensures.len;
-  reads = omega arith;
-  writes = omega arith;
-  patient = c.requires.patient;
+pub serve_source-end-requires-clause-fits : goal.serve_source-end-requires-clause-fits
+serve_source-end-requires-clause-fits g c = record {
+  serving = serving_first c.args.config _ (c.new-service.ensures.answerer ∙ c.in-Ok.ensures.life);
+  legal = subst IsLegalRun (sym c.new-service.ensures.answerer) c.in-Ok.ensures.legal;
 }
-
-pub returns-in-Some-clause-answers : goal.returns-in-Some-clause-answers
-returns-in-Some-clause-answers g c =
-    run_ends _ c.in-Some.status _ _ _ _ _ _ c.loop-taken.taken
-    (take c.in-Got.count c.read_front.new.buffer) c.loop-taken.service c.take_piece.new.service c.loop-taken.invariant.runs c.in-Got.ensures.bytes
-    (piece_same _ _ (take c.in-Got.count c.read_front.new.buffer) c.loop-taken.service c.take_piece.new.service _ _
-    (cut_piece c.in-Got.count c.loop-taken.buffer.len c.deref.result.now c.read_front.new.buffer _ c.deref.ensures.value
-    (omega (arith, c.in-Got.ensures.within.1, c.deref_mut.ensures.len)) (omega (arith, c.in-Got.ensures.within.1, c.read_front.auto.buffer)))
-    c.in-Some.ensures.takes)
-
-pub returns-in-Some-clause-read : goal.returns-in-Some-clause-read
-returns-in-Some-clause-read g c =
-    cause_still _ _ _ (omega (arith, c.loop-taken.invariant.reads, c.in-Got.ensures.failed.later))
-    (λ e. subst (λ (status : Status). EndsPiece status c.in-Some.ensures.takes.why (unadmitted c.in-Some.ensures.takes.life.history)) e
-    c.in-Some.ensures.takes.ends)
-
-pub returns-in-Some-clause-written : goal.returns-in-Some-clause-written
-returns-in-Some-clause-written g c = cause_from _ _ _ _ _ c.loop-taken.invariant.writes c.in-Some.ensures.written (λ e. ap (λ (status : Status). Some status) e)
-
-pub loop-taken-preserved : goal.loop-taken-preserved
-loop-taken-preserved g c = record {
-  runs = run_goes_on _ _ _ _ _ _ _ c.loop-taken.taken c.in-Got.count
-      (take c.in-Got.count c.read_front.new.buffer) c.loop-taken.service c.take_piece.new.service c.loop-taken.invariant.runs c.in-Got.ensures.bytes
-      (length-take-le c.in-Got.count c.read_front.new.buffer (omega (arith, c.in-Got.ensures.within.1, c.read_front.auto.buffer)))
-      (piece_same _ _ (take c.in-Got.count c.read_front.new.buffer) c.loop-taken.service c.take_piece.new.service _ _
-      (cut_piece c.in-Got.count c.loop-taken.buffer.len c.deref.result.now c.read_front.new.buffer _ c.deref.ensures.value
-      (omega (arith, c.in-Got.ensures.within.1, c.deref_mut.ensures.len)) (omega (arith, c.in-Got.ensures.within.1, c.read_front.auto.buffer)))
-      c.in_default-take_piece.ensures.takes);
-  ready = c.in_default-take_piece.ensures.ready refl;
-  within = omega (arith, c.in-Got.ensures.most.1);
-  room_is = c.loop-taken.invariant.room_is;
-  reads = omega (arith, c.loop-taken.invariant.reads, c.in-Got.ensures.failed.later);
-  writes = omega (arith, c.loop-taken.invariant.writes, c.in_default-take_piece.ensures.written.later);
-  patient = c.read_front.ensures.patient;
-}
-
-pub returns-in-End-clause-answers : goal.returns-in-End-clause-answers
-returns-in-End-clause-answers g c =
-    run_finished _ c.ended.result _ _ _ _ c.loop-taken.taken c.loop-taken.service
-    (run_still _ _ _ _ _ _ c.loop-taken.taken c.loop-taken.service c.loop-taken.invariant.runs (end_still _ _ c.in-End.ensures.bytes))
-    (end_left _ _ c.in-End.ensures.bytes) c.loop-taken-test.true c.ended.ensures
-
-pub returns-in-End-clause-read : goal.returns-in-End-clause-read
-returns-in-End-clause-read g c =
-    cause_still _ _ _ (omega (arith, c.loop-taken.invariant.reads, c.in-End.ensures.failed.later))
-    (λ e. subst (λ (status : Status). EndsAt status c.loop-taken.service.waiting (unadmitted c.loop-taken.service.core.history)) e c.ended.ensures)
-
-pub returns-in-End-clause-written : goal.returns-in-End-clause-written
-returns-in-End-clause-written g c =
-    cause_still _ _ _ c.loop-taken.invariant.writes
-    (λ e. subst (λ (status : Status). EndsAt status c.loop-taken.service.waiting (unadmitted c.loop-taken.service.core.history)) e c.ended.ensures)
-
-pub returns-in-Failed-clause-answers : goal.returns-in-Failed-clause-answers
-returns-in-Failed-clause-answers g c =
-    run_fails _ _ _ _ _ c.loop-taken.taken c.loop-taken.service
-    (run_still _ _ _ _ _ _ c.loop-taken.taken c.loop-taken.service c.loop-taken.invariant.runs c.in-Failed.ensures.bytes) c.loop-taken-test.true
-
-pub returns-in-Failed-clause-read : goal.returns-in-Failed-clause-read
-returns-in-Failed-clause-read g c = cause_from _ _ _ _ _ c.loop-taken.invariant.reads c.in-Failed.ensures.failed (λ _. refl)
-
-pub returns-in-Failed-clause-written : goal.returns-in-Failed-clause-written
-returns-in-Failed-clause-written g c = cause_still _ _ _ c.loop-taken.invariant.writes (λ e. cc)
 
 pub returns-clause-answers : goal.returns-clause-answers
 returns-clause-answers g c =
-    run_limited _ _ _ _ _ c.loop-taken.taken c.loop-taken.service c.loop-taken.invariant.runs
-    (omega (arith, c.loop-taken.invariant.within, c.loop-taken-test.false))
+    answered c.args.config c.status_of.result c.serve_source-end.result _ _ _ _ _ _ (c.new-service.ensures.answerer ∙ c.in-Ok.ensures.life)
+    c.status_of.ensures c.serve_source-end.ensures.serves
 
 pub returns-clause-read : goal.returns-clause-read
-returns-clause-read g c = cause_still _ _ _ c.loop-taken.invariant.reads (λ e. cc)
+returns-clause-read g c =
+    cause_from _ _ _ _ _ (omega arith) c.serve_source-end.ensures.read (read_fault_so c.serve_source-end.result c.status_of.result _ c.status_of.ensures)
 
 pub returns-clause-written : goal.returns-clause-written
-returns-clause-written g c = cause_still _ _ _ c.loop-taken.invariant.writes (λ e. cc)
+returns-clause-written g c =
+    cause_from _ _ _ _ _ (omega arith) c.serve_source-end.ensures.written (write_fault_so c.serve_source-end.result c.status_of.result _ c.status_of.ensures)

@@ -6,7 +6,7 @@ use Rattle.poad_cmd.specs.Complete.{Fits}
 use Rattle.poad_cmd.proofs.Commanded.{as_meant, not_none, some_is}
 use Rattle.poad_cmd.proofs.Completed.{completes}
 use Rattle.poad_answer.specs.declared.names_end.NamesEnd.TheVariants.{WantMemory}
-use Rattle.poad_answer.proofs.NamesRunning.{run_refused}
+use Rattle.poad_answer.proofs.Named.{named_none}
 use Rattle.poad_cmd.proofs.run.run_words.Goals as goal
 
 pub returns-in-Ok-clause-bad_words : goal.returns-in-Ok-clause-bad_words
@@ -99,7 +99,7 @@ returns-in-Ok-clause-explains g c asked meant = as_meant
     (seen c.in-Ok.command) (explain asked) (command_in c.args.words.now) c.in-Ok.ensures.ok meant c.run_command.ensures.does
 
 pub returns-in-Err-WantMemory-clause-names : goal.returns-in-Err-WantMemory-clause-names
-returns-in-Err-WantMemory-clause-names g c meant = ((WantMemory, refl, run_refused _ _), refl)
+returns-in-Err-WantMemory-clause-names g c meant = ((WantMemory, refl, named_none _ _), refl)
 
 pub returns-in-Ok-clause-names : goal.returns-in-Ok-clause-names
 returns-in-Ok-clause-names g c meant = as_meant

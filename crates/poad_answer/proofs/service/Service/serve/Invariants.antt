@@ -4,10 +4,10 @@ use Rattle.poad_answer.proofs.Serving.{ServesSome}
 use Rattle.poad_answer.proofs.service.Service.serve.Given as goal
 
 abbrev pub invariant-loop-why : goal.invariant-loop-why
-invariant-loop-why l = record {
-  serves : ServesSome l.initial.self l.self;
-  ready : IsReady l.self;
+invariant-loop-why g l = record {
+  serves : ServesSome g.A.Answerer.meaning l.initial.self l.self;
+  ready : IsReady g.A.Answerer.meaning l.self;
 }
 
 abbrev pub decreases-loop-why : goal.decreases-loop-why
-decreases-loop-why l = length l.self.framer.unread
+decreases-loop-why g l = length l.self.framer.unread
