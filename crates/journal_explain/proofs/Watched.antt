@@ -113,11 +113,11 @@ module _ (past : Life) (e : Entry) (which : Selection) (olds begun : List Trail)
   begun_if false name call came here more is same = others same is
 
 begun_each : (past : Life) (e : Entry) (which : Selection) (olds begun : List Trail) → All (HasSeen past) olds
-    → map (λ (t : Trail). t.name) olds ≡ names_in which past.history → Begins which (arrivals past.history) e olds begun
-    → AreBegun past e which begun
+    → map (λ (t : Trail). t.name) olds ≡ names_in which past.history
+    → Begins which (arrivals past.history) (length past.history) e olds begun → AreBegun past e which begun
 begun_each past (Arrive conn size call) which olds begun each names b =
     let name = name_of (arrivals past.history) conn call in
-    begun_if past (Arrive conn size call) which olds begun each names (asks which name) name call
+    begun_if past (Arrive conn size call) which olds begun each names (asks which name (length past.history)) name call
     (ap (λ (t : Bool). if t then Some call else call_of past.history (arrivals past.history)) (eq-eqb (arrivals past.history) (arrivals past.history) refl))
     refl (omega arith) refl b
 begun_each past e which olds begun each names same = others past e which olds begun each names same refl
@@ -177,7 +177,8 @@ module _ (past : Life) (e : Entry) (place : ℕ) (here : place ≡ length past.h
       → HasWatched (with_entry e past) new
   watched old noted new before notes looks =
       let all : AreBegun past e old.asked notes.begun =
-      begun_each past e old.asked old.trails.items notes.begun before.each before.names notes.begins in
+      begun_each past e old.asked old.trails.items notes.begun before.each before.names
+      (subst (λ (k : ℕ). Begins old.asked (arrivals past.history) k e old.trails.items notes.begun) here notes.begins) in
       let same : new.asked ≡ old.asked = looks.asked ∙ notes.asked in
       record {
         names =

@@ -30,10 +30,11 @@ abbrev pub BeginsIf : Bool → CallName → Call → List Trail → List Trail �
 BeginsIf true name call old new = BeginsOne name call old new
 BeginsIf false name call old new = new ≡ old
 
--- where a call that is asked for arrives as the one of this number
-abbrev pub Begins : Selection → ℕ → Entry → List Trail → List Trail → Type 0
-Begins which r (Arrive conn size call) old new = BeginsIf (asks which (name_of r conn call)) (name_of r conn call) call old new
-Begins which r e old new = new ≡ old
+-- where a call that is asked for arrives as the one of this number, with the entry at this place
+abbrev pub Begins : Selection → ℕ → ℕ → Entry → List Trail → List Trail → Type 0
+Begins which r place (Arrive conn size call) old new =
+    BeginsIf (asks which (name_of r conn call) place) (name_of r conn call) call old new
+Begins which r place e old new = new ≡ old
 
 -- what the next entry of a run, at this place, is to the call
 pub record Notes (past : Life) (e : Entry) (place : ℕ) (old new : Trail) : Type 0 where
@@ -60,7 +61,7 @@ came_next which past e place came = if is_all which then came_with past.config p
 pub record HasNoted (past : Life) (e : Entry) (place : ℕ) (old new : Watch) : Type 0 where
   pub asked : new.asked ≡ old.asked
   pub begun : List Trail
-  pub begins : Begins old.asked (arrivals past.history) e old.trails.items begun
+  pub begins : Begins old.asked (arrivals past.history) place e old.trails.items begun
   pub notes : AllZip (Notes past e place) begun new.trails.items
   pub came : new.came.items ≡ came_next old.asked past e place old.came.items
 

@@ -44,7 +44,14 @@ impl Watch {
     ) -> Result<(), WantMemory>
         ensures { OnOk result (HasNoted run.now entry.now place self.old self.new) }
     {
-        begin(alloc, self.asked, run.arrivals(), entry, &mut self.trails)?;
+        begin(
+            alloc,
+            &self.asked,
+            run.arrivals(),
+            place,
+            entry,
+            &mut self.trails,
+        )?;
         note_each(alloc, run, entry, place, &mut self.trails)?;
         if self.asked.is_all() {
             note_came(alloc, run, entry, place, &mut self.came)?;
