@@ -1,5 +1,5 @@
 -- What `explain` writes, and its status.
-use Rattle.std.specs.Prelude.{◌≡◌, ℕ, ◌+◌, ◌^◌, ◌<◌, IfSome, if◌then◌else◌, List, [], ◌++◌, Option, Some, None, Ok as OkResult, Err, take}
+use Rattle.std.specs.Prelude.{◌≡◌, ℕ, ◌+◌, ◌^◌, ◌<◌, IfSome, List, [], ◌++◌, Option, Some, None, Ok as OkResult, Err, take}
 use Rattle.std.specs.Option.{IsSomeAnd}
 use Rattle.outside.specs.Keeping.{Contents}
 use Rattle.outside.specs.Told.{IfTold}
@@ -7,10 +7,10 @@ use Rattle.poa_base.specs.declared.Config.{Config}
 use Rattle.poa_journal.specs.Whole.{contents_of}
 use Rattle.journal_audit.specs.declared.Refusal.{Refusal}
 use Rattle.journal_explain.specs.declared.Selection.{Selection}
+use Rattle.journal_explain.specs.declared.Selection.TheVariants as asked
 use Rattle.journal_explain.specs.declared.Explanation.{Explanation}
 use Rattle.journal_explain.specs.declared.Watch.{Watch}
 use Rattle.journal_explain.specs.Explaining.{Explains}
-use Rattle.journal_explain.specs.Naming.{is_all}
 use Rattle.poad_audit.specs.Auditing.{NotTaken, journal_limit}
 use Rattle.poad_audit.specs.Printing.{due_line}
 use Rattle.poad_files.specs.Showing.{GainsNothing}
@@ -21,8 +21,12 @@ use Rattle.poad_audit.specs.Story.{calls_text}
 use Rattle.poad_audit.specs.Table.{table_text}
 
 -- what is told of the calls that are asked for, or of all
+abbrev pub text_asked : Selection → ℕ → Watch → List ℕ
+text_asked asked.All line w = table_text line w.came.items
+text_asked which line w = calls_text line w.trails.items
+
 abbrev pub watch_text : ℕ → Watch → List ℕ
-watch_text line w = if is_all w.asked then table_text line w.came.items else calls_text line w.trails.items
+watch_text line w = text_asked w.asked line w
 
 -- where all entries are legal, else nothing
 abbrev pub told_by : ℕ → Option Refusal → Watch → List ℕ

@@ -131,9 +131,11 @@ fn text_of(alloc: Global, found: &Explanation) -> Result<Bytes, WantMemory>
 fn watch_text(alloc: Global, line: u64, watch: &Watch) -> Result<Bytes, WantMemory>
     ensures { IfOk result (λ text. text ≡ watch_text_of line watch.now) }
 {
-    if watch.asked.is_all() {
-        table_text(alloc, line, watch.came.as_slice())
-    } else {
-        calls_text(alloc, line, watch.trails.as_slice())
+    match &watch.asked {
+        Selection::All => table_text(alloc, line, watch.came.as_slice()),
+        Selection::Arrival(_)
+        | Selection::Call { .. }
+        | Selection::Object { .. }
+        | Selection::Picture { .. } => calls_text(alloc, line, watch.trails.as_slice()),
     }
 }

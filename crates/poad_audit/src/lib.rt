@@ -12,6 +12,7 @@ mod row_text;
 mod story;
 mod table;
 mod tally;
+mod verdict_text;
 
 pub use auditing::audit_files;
 pub use explaining::explain_files;
