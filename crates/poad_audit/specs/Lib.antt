@@ -6,3 +6,8 @@ pub mod Verdicts
 pub mod Story
 pub mod Table
 pub mod Explaining
+pub mod PicturePhases
+pub mod PictureStyle
+pub mod PictureBars
+pub mod PictureLanes
+pub mod Picture

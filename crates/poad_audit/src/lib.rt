@@ -7,6 +7,7 @@ mod auditing;
 mod call_text;
 mod explaining;
 mod linking;
+mod picture;
 mod printing;
 mod row_text;
 mod story;
