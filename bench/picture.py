@@ -25,43 +25,24 @@ WORDS = {
     'replying': 'its reply waits to be taken',
 }
 BY_VERDICT = {'serve': 'serving', 'default': 'serving', 'locator': 'serving', 'incarnate': 'bringing', 'try': 'trying', 'wait': 'pending'}
-RULES = '''\
-.waiting{stroke:#d8d8d8}
-.manager{stroke:url(#manager)}
-.trial{stroke:url(#trial)}
-.turn{stroke:url(#turn)}
-.main{stroke:url(#main)}
-.id{stroke:url(#id)}
-.change{stroke:url(#change)}
-.trying{stroke:#e6a3d7}
-.bringing{stroke:#b39ddb}
-.serving{stroke:#90c4f0}
-.running{stroke:#1f6fb4}
-.pending{stroke:#2e8b3d;stroke-width:14;stroke-dasharray:20 20}
-.replying{stroke:#2e8b3d;stroke-width:14}
-'''
-HATCHES = '''\
-<pattern id='manager' width='50' height='50' patternUnits='userSpaceOnUse' patternTransform='rotate(45)'><path fill='#fde0dc' d='M0 0H50V50H0z'/><path fill='#d32f2f' d='M0 0H20V50H0z'/></pattern>
-<pattern id='trial' width='50' height='50' patternUnits='userSpaceOnUse' patternTransform='rotate(-45)'><path fill='#fbe4f5' d='M0 0H50V50H0z'/><path fill='#ad1487' d='M0 0H20V50H0z'/></pattern>
-<pattern id='turn' width='40' height='40' patternUnits='userSpaceOnUse'><path fill='#fff0d6' d='M0 0H40V40H0z'/><path fill='#e07b00' d='M0 0H16V40H0z'/></pattern>
-<pattern id='main' width='40' height='40' patternUnits='userSpaceOnUse'><path fill='#efe6e0' d='M0 0H40V40H0z'/><path fill='#7a5548' d='M0 0H40V18H0z'/></pattern>
-<pattern id='id' width='50' height='50' patternUnits='userSpaceOnUse' patternTransform='rotate(45)'><path fill='#dff3f1' d='M0 0H50V50H0z'/><path fill='#00796b' d='M0 0H12V50H0zM0 0H50V12H0z'/></pattern>
-<pattern id='change' width='40' height='40' patternUnits='userSpaceOnUse'><path fill='#eef2cf' d='M0 0H40V40H0z'/><path fill='#7a8500' d='M4 4H24V24H4z'/></pattern>
-'''
-LEGEND = [
-    ('waiting', 'M100 300H400', 450, 330, 'waits for a worker'),
-    ('serving', 'M2300 300H2600', 2650, 330, 'a worker has it'),
-    ('running', 'M4500 300H4800', 4850, 330, 'its servant ran'),
-    ('trying', 'M6700 300H7000', 7050, 330, 'the adapter activator is asked'),
-    ('bringing', 'M8900 300H9200', 9250, 330, 'the servant activator is asked'),
-    ('replying', 'M11100 300H11400', 11450, 330, 'its reply waits to be taken'),
-    ('pending', 'M13300 300H13600', 13650, 330, 'its answer waits'),
-    ('manager', 'M100 440H400', 450, 470, 'held: a manager is HOLDING'),
-    ('trial', 'M2300 440H2600', 2650, 470, 'held: a trial is in flight'),
-    ('turn', 'M4500 440H4800', 4850, 470, 'held: one at a time'),
-    ('main', 'M6700 440H7000', 7050, 470, 'held: for the first worker'),
-    ('id', 'M8900 440H9200', 9250, 470, 'held: its object comes or goes'),
-    ('change', 'M11100 440H11400', 11450, 470, 'held: the activator is busy'),
+# the looks: class, colour or hatch, and the words of the legend with their place
+FREE = [
+    ('waiting', '#d8d8d8', 100, 300, 'waits for a worker'),
+    ('trying', '#e6a3d7', 6700, 300, 'the adapter activator is asked'),
+    ('bringing', '#b39ddb', 8900, 300, 'the servant activator is asked'),
+    ('serving', '#90c4f0', 2300, 300, 'a worker has it'),
+    ('running', '#1f6fb4', 4500, 300, 'its servant ran'),
+    ('pending', '#2e8b3d;stroke-width:14;stroke-dasharray:20 20', 13300, 300, 'its answer waits'),
+    ('replying', '#2e8b3d;stroke-width:14', 11100, 300, 'its reply waits to be taken'),
+]
+# and of each hatch: width, height, turn, ground, ink and mark
+CAUSES = [
+    ('manager', 50, 50, 45, '#fde0dc', '#d32f2f', 'M0 0H20V50H0z', 100, 'held: a manager is HOLDING'),
+    ('trial', 50, 50, -45, '#fbe4f5', '#ad1487', 'M0 0H20V50H0z', 2300, 'held: a trial is in flight'),
+    ('turn', 40, 50, 0, '#fff0d6', '#e07b00', 'M0 0H16V50H0z', 4500, 'held: one at a time'),
+    ('main', 50, 40, 0, '#efe6e0', '#7a5548', 'M0 0H50V18H0z', 6700, 'held: for the first worker'),
+    ('id', 50, 50, 45, '#dff3f1', '#00796b', 'M0 0H12V50H0zM0 0H50V12H0z', 8900, 'held: its object comes or goes'),
+    ('change', 40, 40, 0, '#eef2cf', '#7a8500', 'M4 4H24V24H4z', 11100, 'held: the activator is busy'),
 ]
 STEPS = ((20, 1), (100, 5), (200, 10), (1000, 50), (2000, 100), (10000, 500), (20000, 1000), (100000, 5000), (200000, 10000))
 
@@ -172,28 +153,35 @@ def picture(calls, entries, first, last):
     yield f"<svg xmlns='http://www.w3.org/2000/svg' width='1600' height='{rows + 10}0' viewBox='0 0 16000 {rows + 10}00'>\n"
     yield '''<style>
 text{font-family:sans-serif;font-size:82px;fill:#222}
-path{stroke-width:80}
 .lane{font-weight:bold}
 .tick{fill:#666;text-anchor:middle}
+path{stroke-width:80}
 .grid{stroke:#ddd;stroke-width:5}
 .row{stroke:#eee;stroke-width:5}
-''' + RULES + '''.ended.replying,.ended.pending{marker-end:url(#head)}
+.ended.replying,.ended.pending{marker-end:url(#head)}
 </style>
-'''
-    yield HATCHES
-    yield '''<marker id='head' viewBox='0 0 10 10' refX='10' refY='5' markerWidth='70' markerHeight='70' markerUnits='userSpaceOnUse' orient='auto'><path fill='#2e8b3d' d='M0 0L10 5L0 10z'/></marker>
+<marker id='head' viewBox='0 0 10 10' refX='10' refY='5' markerWidth='70' markerHeight='70' markerUnits='userSpaceOnUse' orient='auto'>'''
+    yield '''<path fill='#2e8b3d' d='M0 0L10 5L0 10z'/></marker>
 <path fill='#fff' d='M0 0H16000V99999999H0z'/>
 '''
     yield f"<text class='lane' x='100' y='170'>entries {window.first} to {window.first + window.span}, {len(names)} calls</text>\n"
-    for css, d, x, y, words in LEGEND:
-        yield f"<path class='{css} ended' d='{d}'/><text x='{x}' y='{y}'>{words}</text>\n"
+    for css, colour, x, y, words in FREE:
+        ended = ' ended' if css in ('replying', 'pending') else ''
+        yield f"<style>.{css}{{stroke:{colour}}}</style>\n"
+        yield f"<path class='{css}{ended}' d='M{x} {y}H{x + 300}'/><text x='{x + 350}' y='{y + 30}'>{words}</text>\n"
+    for css, width, height, turn, ground, ink, mark, x, words in CAUSES:
+        turned = f" patternTransform='rotate({turn})'" if turn else ''
+        yield f"<pattern id='{css}' width='{width}' height='{height}' patternUnits='userSpaceOnUse'{turned}>"
+        yield f"<path fill='{ground}' d='M0 0H50V50H0z'/><path fill='{ink}' d='{mark}'/></pattern>\n"
+        yield f"<style>.{css}{{stroke:url(#{css})}}</style>\n"
+        yield f"<path class='{css}' d='M{x} 440H{x + 300}'/><text x='{x + 350}' y='470'>{words}</text>\n"
     yield "<g transform='translate(0 800)'>\n"
     step = next((s for limit, s in STEPS if window.span < limit), 50000)
     for i in range(20):
         if i * step <= window.span:
             entry = window.first + i * step
             x = window.place(entry)
-            yield f"<path class='grid' d='M{x} 0V{rows}00'/><text class='tick' x='{x}' y='-30'>{entry}</text>\n"
+            yield f"<g transform='translate({x} 0)'><path class='grid' d='M0 0V{rows}00'/><text class='tick' y='-30'>{entry}</text></g>\n"
     for i, (label, lies) in enumerate(lanes):
         yield f"<g transform='translate(0 {i}00)'>\n{label}"
         for bar in bars:

@@ -26,8 +26,11 @@ number_on Workers b = if is_work b.phase then b.worker else None
 number_on Activations b = if is_work b.phase then b.activation else None
 
 -- numbers in order, each once
+abbrev pub inserted : ℕ → List ℕ → List ℕ
+inserted n known = insert known (length (filter (λ x. nat_lt x n) known)) n
+
 abbrev pub entered : ℕ → List ℕ → List ℕ
-entered n known = if list_any (λ x. x == n) known then known else insert known (length (filter (λ x. nat_lt x n) known)) n
+entered n known = if list_any (λ x. x == n) known then known else inserted n known
 
 abbrev pub entered_if : Option ℕ → List ℕ → List ℕ
 entered_if None known = known

@@ -28,6 +28,7 @@ use std::alloc::Global;
 use window::Window;
 
 /// Draws these calls, from the one entry to the other, or to the last with which something happened to one of them.
+#[tactic(auto, unfolding(crate::specs::Picture::picture_text))]
 pub(crate) fn picture_text(
     alloc: Global,
     trails: &[Trail],
@@ -43,6 +44,7 @@ pub(crate) fn picture_text(
 }
 
 /// Draws the calls that have these bars.
+#[tactic(auto, unfolding(crate::specs::Picture::picture_in))]
 fn picture_in(
     alloc: Global,
     window: Window,

@@ -6,12 +6,13 @@ use crate::picture::bar::Bar;
 use crate::picture::lane::Lane;
 use crate::picture::rows::put_lanes;
 use crate::picture::scale::put_scale;
-use crate::picture::style::{put_legend, put_style};
+use crate::picture::style::{put_legend, put_sheet};
 use crate::picture::window::Window;
 use poa_base::{Bytes, WantMemory};
 use std::alloc::Global;
 
 /// The lanes with these bars, of so many calls.
+#[tactic(auto, unfolding(crate::specs::Picture::drawing))]
 pub(crate) fn drawing(
     alloc: Global,
     window: Window,
@@ -23,7 +24,7 @@ pub(crate) fn drawing(
 {
     let rows = lanes.len() as u64;
     let mut out = frame(alloc, rows)?.into_bytes();
-    put_style(&mut out)?;
+    put_sheet(&mut out)?;
     out.extend_from_slice(title(alloc, window, calls)?.as_bytes())?;
     put_legend(&mut out)?;
     out.extend_from_slice(b"<g transform='translate(0 800)'>\n")?;
@@ -34,6 +35,7 @@ pub(crate) fn drawing(
 }
 
 /// The begin of the picture, with so many rows.
+#[tactic(auto, unfolding(crate::specs::Picture::frame))]
 fn frame(alloc: Global, rows: u64) -> Result<String, WantMemory>
     requires { rows + 10 < 2 ^ 64 }
     ensures { IfOk result (λ text. string_bytes text ≡ drawn.frame rows) }
@@ -44,6 +46,7 @@ fn frame(alloc: Global, rows: u64) -> Result<String, WantMemory>
     )
 }
 
+#[tactic(auto, unfolding(crate::specs::Picture::title))]
 fn title(alloc: Global, window: Window, calls: u64) -> Result<String, WantMemory>
     ensures { IfOk result (λ text. string_bytes text ≡ drawn.title window calls) }
 {

@@ -15,7 +15,7 @@ pub(crate) fn label_text(alloc: Global, lane: Lane) -> Result<String, WantMemory
     match lane {
         Lane::Connection(conn) => connection_text(alloc, conn),
         Lane::Call(name) => call_text(alloc, name),
-        Lane::Head(band) => band_text(alloc, band),
+        Lane::Head(band) => head_text(alloc, band_label(band)),
         Lane::One(band, number) => one_text(alloc, band, number),
     }
 }
@@ -23,41 +23,63 @@ pub(crate) fn label_text(alloc: Global, lane: Lane) -> Result<String, WantMemory
 fn connection_text(alloc: Global, conn: u32) -> Result<String, WantMemory>
     ensures { IfOk result (λ text. string_bytes text ≡ drawn.label_text (Lane.Connection conn)) }
 {
-    format!(in alloc; "<text class='lane' x='100' y='80'>connection {conn}</text>\n")
+    let label = format!(in alloc; "connection {conn}")?;
+    head_text(alloc, label.as_str())
 }
 
 fn call_text(alloc: Global, name: CallName) -> Result<String, WantMemory>
     ensures { IfOk result (λ text. string_bytes text ≡ drawn.label_text (Lane.Call name)) }
 {
-    let arrival = name.arrival;
-    match name.id {
-        Some(id) => format!(in alloc;
-            "<path class='row' d='M1500 50H15500'/><text x='200' y='80'>call {arrival}, id {id}</text>\n"
-        ),
-        None => format!(in alloc;
-            "<path class='row' d='M1500 50H15500'/><text x='200' y='80'>call {arrival}, a command</text>\n"
-        ),
+    let label = call_label(alloc, name.id, name.arrival)?;
+    row_text(alloc, label.as_str())
+}
+
+fn call_label(alloc: Global, id: Option<u32>, arrival: u64) -> Result<String, WantMemory>
+    ensures { IfOk result (λ text. string_bytes text ≡ drawn.call_label id arrival) }
+{
+    match id {
+        Some(id) => Ok(format!(in alloc; "call {arrival}, id {id}")?),
+        None => Ok(format!(in alloc; "call {arrival}, a command")?),
     }
 }
 
-fn band_text(alloc: Global, band: Band) -> Result<String, WantMemory>
-    ensures { IfOk result (λ text. string_bytes text ≡ drawn.label_text (Lane.Head band)) }
+fn band_label(band: Band) -> &'static str
+    ensures { result.now ≡ drawn.band_label band }
 {
-    let label = match band {
+    match band {
         Band::Workers => "workers",
         Band::Activations => "activations",
-    };
-    format!(in alloc; "<text class='lane' x='100' y='80'>{label}</text>\n")
+    }
 }
 
 fn one_text(alloc: Global, band: Band, number: u32) -> Result<String, WantMemory>
     ensures { IfOk result (λ text. string_bytes text ≡ drawn.label_text (Lane.One band number)) }
 {
-    let label = match band {
-        Band::Workers => "worker",
-        Band::Activations => "activation",
-    };
+    let label = one_label(alloc, band, number)?;
+    row_text(alloc, label.as_str())
+}
+
+fn one_label(alloc: Global, band: Band, number: u32) -> Result<String, WantMemory>
+    ensures { IfOk result (λ text. string_bytes text ≡ drawn.one_label band number) }
+{
+    match band {
+        Band::Workers => Ok(format!(in alloc; "worker {number}")?),
+        Band::Activations => Ok(format!(in alloc; "activation {number}")?),
+    }
+}
+
+/// Of a lane that heads others.
+fn head_text(alloc: Global, label: &str) -> Result<String, WantMemory>
+    ensures { IfOk result (λ text. string_bytes text ≡ drawn.head_text label.now) }
+{
+    format!(in alloc; "<text class='lane' x='100' y='80'>{label}</text>\n")
+}
+
+/// Of one that has bars.
+fn row_text(alloc: Global, label: &str) -> Result<String, WantMemory>
+    ensures { IfOk result (λ text. string_bytes text ≡ drawn.row_text label.now) }
+{
     format!(in alloc;
-        "<path class='row' d='M1500 50H15500'/><text x='200' y='80'>{label} {number}</text>\n"
+        "<path class='row' d='M1500 50H15500'/><text x='200' y='80'>{label}</text>\n"
     )
 }

@@ -59,10 +59,17 @@ fn put_connections(
     ensures { OnOk result (lanes.new.items ≡ lanes.old.items ++ flat_map (drawn.connection_lanes names.now) conns.now) }
 {
     for conn in conns {
-        lanes.push(Lane::Connection(*conn))?;
-        put_calls(lanes, names, *conn)?;
+        put_connection(lanes, names, *conn)?;
     }
     Ok(())
+}
+
+/// Adds a connection with its calls.
+fn put_connection(lanes: &mut Vec<Lane>, names: &[CallName], conn: u32) -> Result<(), WantMemory>
+    ensures { OnOk result (lanes.new.items ≡ lanes.old.items ++ drawn.connection_lanes names.now conn) }
+{
+    lanes.push(Lane::Connection(conn))?;
+    put_calls(lanes, names, conn)
 }
 
 /// Adds the calls of a connection.
@@ -70,9 +77,17 @@ fn put_calls(lanes: &mut Vec<Lane>, names: &[CallName], conn: u32) -> Result<(),
     ensures { OnOk result (lanes.new.items ≡ lanes.old.items ++ flat_map (drawn.call_lane conn) names.now) }
 {
     for name in names {
-        if name.conn == conn {
-            lanes.push(Lane::Call(*name))?;
-        }
+        put_call(lanes, *name, conn)?;
+    }
+    Ok(())
+}
+
+/// Adds a call, where it is of that connection.
+fn put_call(lanes: &mut Vec<Lane>, name: CallName, conn: u32) -> Result<(), WantMemory>
+    ensures { OnOk result (lanes.new.items ≡ lanes.old.items ++ drawn.call_lane conn name) }
+{
+    if name.conn == conn {
+        lanes.push(Lane::Call(name))?;
     }
     Ok(())
 }

@@ -1,5 +1,6 @@
 //! Numbers in order, each once.
-ghost use Rattle.std.specs.Prelude.{◌≡◌, ◌≤◌, filter, length, nat_lt, IfOk, OnOk, Some, []};
+ghost use Rattle.std.specs.Prelude.{◌≡◌, ◌≤◌, ◌==◌, filter, length, nat_lt, IfOk, OnOk, Some, []};
+ghost use Rattle.std.specs.List.{list_any};
 ghost use Rattle.poad_audit.specs.PictureLanes as drawn;
 
 use crate::picture::band::Band;
@@ -12,12 +13,36 @@ use std::alloc::Global;
 fn enter(known: &mut Vec<u32>, number: u32) -> Result<(), WantMemory>
     ensures { OnOk result (known.new.items ≡ drawn.entered number known.old.items) }
 {
-    if known.iter().any(|own| *own == number) {
-        return Ok(());
+    if is_known(known.as_slice(), number) {
+        Ok(())
+    } else {
+        insert(known, number)
     }
+}
+
+fn is_known(known: &[u32], number: u32) -> bool
+    ensures { result ≡ list_any (λ x. x == number) known.now }
+{
+    known.iter().any(|own| *own == number)
+}
+
+/// Puts a number behind all that are less.
+fn insert(known: &mut Vec<u32>, number: u32) -> Result<(), WantMemory>
+    ensures { OnOk result (known.new.items ≡ drawn.inserted number known.old.items) }
+{
     let place = place_for(known.as_slice(), number);
     known.insert(place, number)?;
     Ok(())
+}
+
+/// Enters a number, where there is one.
+fn enter_if(known: &mut Vec<u32>, number: Option<u32>) -> Result<(), WantMemory>
+    ensures { OnOk result (known.new.items ≡ drawn.entered_if number known.old.items) }
+{
+    match number {
+        Some(number) => enter(known, number),
+        None => Ok(()),
+    }
 }
 
 /// How many are less.
@@ -45,9 +70,7 @@ pub(crate) fn numbers_in(alloc: Global, band: Band, bars: &[Bar]) -> Result<Vec<
 {
     let mut known = Vec::new(alloc);
     for bar in bars {
-        if let Some(number) = band.number_on(bar) {
-            enter(&mut known, number)?;
-        }
+        enter_if(&mut known, band.number_on(bar))?;
     }
     Ok(known)
 }

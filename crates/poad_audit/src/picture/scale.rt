@@ -1,6 +1,5 @@
 //! The scale of a picture.
-ghost use Rattle.std.specs.Prelude.{◌≡◌, ◌+◌, ◌≤◌, ◌<◌, ◌++◌, IfOk, OnOk, string_bytes};
-ghost use Rattle.std.specs.List.{All};
+ghost use Rattle.std.specs.Prelude.{◌≡◌, ◌≤◌, ◌++◌, IfOk, OnOk, string_bytes};
 ghost use Rattle.poad_audit.specs.Story.{lines_by};
 ghost use Rattle.poad_audit.specs.Picture as drawn;
 
@@ -9,6 +8,7 @@ use poa_base::{Bytes, WantMemory};
 use std::alloc::Global;
 
 /// Adds the scale for so many rows.
+#[tactic(auto, unfolding(crate::specs::Picture::scale))]
 pub(crate) fn put_scale(
     alloc: Global,
     out: &mut Vec<u8>,
@@ -46,19 +46,32 @@ fn line_at(alloc: Global, window: Window, rows: u64, number: u8) -> Result<Bytes
     if u64::from(window.span) < offset {
         return Ok(Bytes::new(alloc));
     }
-    let text = line_text(alloc, window, rows, offset)?;
-    Ok(Bytes::from_vec(text.into_bytes()))
+    line_text(alloc, window, rows, offset)
 }
 
-fn line_text(alloc: Global, window: Window, rows: u64, offset: u64) -> Result<String, WantMemory>
+fn line_text(alloc: Global, window: Window, rows: u64, offset: u64) -> Result<Bytes, WantMemory>
     requires { offset ≤ window.span }
-    ensures { IfOk result (λ text. string_bytes text ≡ drawn.line_text window rows offset) }
+    ensures { IfOk result (λ text. text ≡ drawn.line_text window rows offset) }
 {
-    let place = window.place(offset);
-    let entry = u64::from(window.from) + offset;
-    format!(in alloc;
-        "<path class='grid' d='M{place} 0V{rows}00'/><text class='tick' x='{place}' y='-30'>{entry}</text>\n"
-    )
+    let head = line_head(alloc, window.place(offset))?;
+    let tail = line_tail(alloc, rows, u64::from(window.from) + offset)?;
+    let mut out = head.into_bytes();
+    out.extend_from_slice(tail.as_bytes())?;
+    Ok(Bytes::from_vec(out))
+}
+
+#[tactic(auto, unfolding(crate::specs::Picture::line_head))]
+fn line_head(alloc: Global, x: u64) -> Result<String, WantMemory>
+    ensures { IfOk result (λ text. string_bytes text ≡ drawn.line_head x) }
+{
+    format!(in alloc; "<g transform='translate({x} 0)'>")
+}
+
+#[tactic(auto, unfolding(crate::specs::Picture::line_tail))]
+fn line_tail(alloc: Global, rows: u64, entry: u64) -> Result<String, WantMemory>
+    ensures { IfOk result (λ text. string_bytes text ≡ drawn.line_tail rows entry) }
+{
+    format!(in alloc; "<path class='grid' d='M0 0V{rows}00'/><text class='tick' y='-30'>{entry}</text></g>\n")
 }
 
 /// How many entries lie between two lines.

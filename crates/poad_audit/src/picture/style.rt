@@ -7,18 +7,61 @@ use crate::picture::phase::Phase;
 use held_queue::Hold;
 use poa_base::WantMemory;
 
-/// Adds the style sheet and the head of an arrow.
-pub(crate) fn put_style(out: &mut Vec<u8>) -> Result<(), WantMemory>
-    ensures { OnOk result (out.new.items ≡ out.old.items ++ (drawn.style ++ drawn.arrow)) }
+/// Adds the style sheet, the head of an arrow and the ground.
+#[tactic(auto, unfolding(crate::specs::PictureStyle::sheet))]
+pub(crate) fn put_sheet(out: &mut Vec<u8>) -> Result<(), WantMemory>
+    ensures { OnOk result (out.new.items ≡ out.old.items ++ drawn.sheet) }
 {
-    out.extend_from_slice(b"<style>\ntext{font-family:sans-serif;font-size:82px;fill:#222}\npath{stroke-width:80}\n.lane{font-weight:bold}\n")?;
-    out.extend_from_slice(b".tick{fill:#666;text-anchor:middle}\n.grid{stroke:#ddd;stroke-width:5}\n.row{stroke:#eee;stroke-width:5}\n")?;
-    out.extend_from_slice(b".ended.replying,.ended.pending{marker-end:url(#head)}\n</style>\n")?;
-    out.extend_from_slice(b"<marker id='head' viewBox='0 0 10 10' refX='10' refY='5' markerWidth='70' markerHeight='70' markerUnits='userSpaceOnUse' orient='auto'>")?;
-    out.extend_from_slice(b"<path fill='#2e8b3d' d='M0 0L10 5L0 10z'/></marker>\n<path fill='#fff' d='M0 0H16000V99999999H0z'/>\n")
+    put(out, text_rules())?;
+    put(out, line_rules())?;
+    put(out, head_rule())?;
+    put(out, head_frame())?;
+    put(out, head_fill())
+}
+
+#[tactic(auto, unfolding(crate::specs::PictureStyle::text_rules))]
+fn text_rules() -> &'static str
+    ensures { result.now ≡ drawn.text_rules }
+{
+    "<style>\ntext{font-family:sans-serif;font-size:82px;fill:#222}\n.lane{font-weight:bold}\n.tick{fill:#666;text-anchor:middle}\n"
+}
+
+#[tactic(auto, unfolding(crate::specs::PictureStyle::line_rules))]
+fn line_rules() -> &'static str
+    ensures { result.now ≡ drawn.line_rules }
+{
+    "path{stroke-width:80}\n.grid{stroke:#ddd;stroke-width:5}\n.row{stroke:#eee;stroke-width:5}\n"
+}
+
+#[tactic(auto, unfolding(crate::specs::PictureStyle::head_rule))]
+fn head_rule() -> &'static str
+    ensures { result.now ≡ drawn.head_rule }
+{
+    ".ended.replying,.ended.pending{marker-end:url(#head)}\n</style>\n"
+}
+
+#[tactic(auto, unfolding(crate::specs::PictureStyle::head_frame))]
+fn head_frame() -> &'static str
+    ensures { result.now ≡ drawn.head_frame }
+{
+    "<marker id='head' viewBox='0 0 10 10' refX='10' refY='5' markerWidth='70' markerHeight='70' markerUnits='userSpaceOnUse' orient='auto'>"
+}
+
+#[tactic(auto, unfolding(crate::specs::PictureStyle::head_fill))]
+fn head_fill() -> &'static str
+    ensures { result.now ≡ drawn.head_fill }
+{
+    "<path fill='#2e8b3d' d='M0 0L10 5L0 10z'/></marker>\n<path fill='#fff' d='M0 0H16000V99999999H0z'/>\n"
+}
+
+fn put(out: &mut Vec<u8>, text: &str) -> Result<(), WantMemory>
+    ensures { OnOk result (out.new.items ≡ out.old.items ++ text.now) }
+{
+    out.extend_from_slice(text.as_bytes())
 }
 
 /// Adds each look, with its words.
+#[tactic(auto, unfolding(crate::specs::PictureStyle::legend))]
 pub(crate) fn put_legend(out: &mut Vec<u8>) -> Result<(), WantMemory>
     ensures { OnOk result (out.new.items ≡ out.old.items ++ drawn.legend) }
 {
@@ -48,10 +91,16 @@ fn put_free(out: &mut Vec<u8>, phases: &[Phase]) -> Result<(), WantMemory>
     ensures { OnOk result (out.new.items ≡ out.old.items ++ lines_by drawn.free_look phases.now) }
 {
     for phase in phases {
-        out.extend_from_slice(colour_rule(*phase).as_bytes())?;
-        out.extend_from_slice(free_sample(*phase).as_bytes())?;
+        put_free_look(out, *phase)?;
     }
     Ok(())
+}
+
+fn put_free_look(out: &mut Vec<u8>, phase: Phase) -> Result<(), WantMemory>
+    ensures { OnOk result (out.new.items ≡ out.old.items ++ drawn.free_look phase) }
+{
+    put(out, colour_rule(phase))?;
+    put(out, free_sample(phase))
 }
 
 /// Adds the looks of what these hold.
@@ -59,15 +108,21 @@ fn put_held(out: &mut Vec<u8>, causes: &[Hold]) -> Result<(), WantMemory>
     ensures { OnOk result (out.new.items ≡ out.old.items ++ lines_by drawn.held_look causes.now) }
 {
     for cause in causes {
-        out.extend_from_slice(hatch_frame(*cause).as_bytes())?;
-        out.extend_from_slice(hatch_fill(*cause).as_bytes())?;
-        out.extend_from_slice(b"</pattern>\n")?;
-        out.extend_from_slice(hatch_rule(*cause).as_bytes())?;
-        out.extend_from_slice(held_sample(*cause).as_bytes())?;
+        put_held_look(out, *cause)?;
     }
     Ok(())
 }
 
+fn put_held_look(out: &mut Vec<u8>, cause: Hold) -> Result<(), WantMemory>
+    ensures { OnOk result (out.new.items ≡ out.old.items ++ drawn.held_look cause) }
+{
+    put(out, hatch_frame(cause))?;
+    put(out, hatch_fill(cause))?;
+    put(out, hatch_rule(cause))?;
+    put(out, held_sample(cause))
+}
+
+#[tactic(auto, unfolding(crate::specs::PictureStyle::colour_rule))]
 fn colour_rule(phase: Phase) -> &'static str
     ensures { result.now ≡ drawn.colour_rule phase }
 {
@@ -83,6 +138,7 @@ fn colour_rule(phase: Phase) -> &'static str
     }
 }
 
+#[tactic(auto, unfolding(crate::specs::PictureStyle::hatch_rule))]
 fn hatch_rule(hold: Hold) -> &'static str
     ensures { result.now ≡ drawn.hatch_rule hold }
 {
@@ -96,6 +152,7 @@ fn hatch_rule(hold: Hold) -> &'static str
     }
 }
 
+#[tactic(auto, unfolding(crate::specs::PictureStyle::hatch_frame))]
 fn hatch_frame(hold: Hold) -> &'static str
     ensures { result.now ≡ drawn.hatch_frame hold }
 {
@@ -117,31 +174,33 @@ fn hatch_frame(hold: Hold) -> &'static str
     }
 }
 
+#[tactic(auto, unfolding(crate::specs::PictureStyle::hatch_fill))]
 fn hatch_fill(hold: Hold) -> &'static str
     ensures { result.now ≡ drawn.hatch_fill hold }
 {
     match hold {
         Hold::Manager(_) => {
-            "<path fill='#fde0dc' d='M0 0H50V50H0z'/><path fill='#d32f2f' d='M0 0H20V50H0z'/>"
+            "<path fill='#fde0dc' d='M0 0H50V50H0z'/><path fill='#d32f2f' d='M0 0H20V50H0z'/></pattern>\n"
         }
         Hold::Trial(_) => {
-            "<path fill='#fbe4f5' d='M0 0H50V50H0z'/><path fill='#ad1487' d='M0 0H20V50H0z'/>"
+            "<path fill='#fbe4f5' d='M0 0H50V50H0z'/><path fill='#ad1487' d='M0 0H20V50H0z'/></pattern>\n"
         }
         Hold::Turn(_) => {
-            "<path fill='#fff0d6' d='M0 0H50V50H0z'/><path fill='#e07b00' d='M0 0H16V50H0z'/>"
+            "<path fill='#fff0d6' d='M0 0H50V50H0z'/><path fill='#e07b00' d='M0 0H16V50H0z'/></pattern>\n"
         }
         Hold::Main => {
-            "<path fill='#efe6e0' d='M0 0H50V50H0z'/><path fill='#7a5548' d='M0 0H50V18H0z'/>"
+            "<path fill='#efe6e0' d='M0 0H50V50H0z'/><path fill='#7a5548' d='M0 0H50V18H0z'/></pattern>\n"
         }
         Hold::Id(_) => {
-            "<path fill='#dff3f1' d='M0 0H50V50H0z'/><path fill='#00796b' d='M0 0H12V50H0zM0 0H50V12H0z'/>"
+            "<path fill='#dff3f1' d='M0 0H50V50H0z'/><path fill='#00796b' d='M0 0H12V50H0zM0 0H50V12H0z'/></pattern>\n"
         }
         Hold::Change(_) => {
-            "<path fill='#eef2cf' d='M0 0H50V50H0z'/><path fill='#7a8500' d='M4 4H24V24H4z'/>"
+            "<path fill='#eef2cf' d='M0 0H50V50H0z'/><path fill='#7a8500' d='M4 4H24V24H4z'/></pattern>\n"
         }
     }
 }
 
+#[tactic(auto, unfolding(crate::specs::PictureStyle::free_sample))]
 fn free_sample(phase: Phase) -> &'static str
     ensures { result.now ≡ drawn.free_sample phase }
 {
@@ -171,6 +230,7 @@ fn free_sample(phase: Phase) -> &'static str
     }
 }
 
+#[tactic(auto, unfolding(crate::specs::PictureStyle::held_sample))]
 fn held_sample(hold: Hold) -> &'static str
     ensures { result.now ≡ drawn.held_sample hold }
 {
