@@ -44,10 +44,16 @@ twenty = 0 ∷ 1 ∷ 2 ∷ 3 ∷ 4 ∷ 5 ∷ 6 ∷ 7 ∷ 8 ∷ 9 ∷ 10 ∷ 11 �
 unfoldable pub scale : Window → ℕ → List ℕ
 scale w rows = lines_by (line_at w rows) twenty
 
--- the lanes with these bars, of so many calls
+-- what stands above, and below it the lanes with these bars
+unfoldable pub front : Window → ℕ → List ℕ
+front w calls = sheet ++ (title w calls ++ legend)
+
+unfoldable pub body : Window → List Bar → List Lane → List ℕ
+body w bars lanes =
+    codes "<g transform='translate(0 800)'>\n" ++ (scale w (length lanes) ++ (lanes_text w bars 0 lanes ++ codes "</g>\n</svg>\n"))
+
 unfoldable pub drawing : Window → ℕ → List Bar → List Lane → List ℕ
-drawing w calls bars lanes = frame (length lanes) ++ (sheet ++ (title w calls ++ (legend
-    ++ (codes "<g transform='translate(0 800)'>\n" ++ (scale w (length lanes) ++ (lanes_text w bars 0 lanes ++ codes "</g>\n</svg>\n"))))))
+drawing w calls bars lanes = frame (length lanes) ++ (front w calls ++ body w bars lanes)
 
 unfoldable pub picture_in : Window → List Bar → List Trail → List ℕ
 picture_in w bars trails = (let names = names_in bars trails in drawing w (length names) bars (lanes_in names bars))

@@ -87,7 +87,7 @@ head_text label = codes "<text class='lane' x='100' y='80'>" ++ (label ++ codes 
 abbrev pub row_text : List ℕ → List ℕ
 row_text label = codes "<path class='row' d='M1500 50H15500'/><text x='200' y='80'>" ++ (label ++ codes "</text>\n")
 
-abbrev pub label_text : Lane → List ℕ
+unfoldable pub label_text : Lane → List ℕ
 label_text (lane.Connection conn) = head_text (codes "connection " ++ decimal conn)
 label_text (lane.Call name) = row_text (call_label name.id name.arrival)
 label_text (lane.Head band) = head_text (band_label band)
@@ -97,9 +97,11 @@ abbrev pub bar_on : Window → Lane → Bar → List ℕ
 bar_on w l b = if is_on l b then bar_line w b else []
 
 -- a lane is a hundred high
-abbrev pub lane_text : Window → List Bar → ℕ → Lane → List ℕ
-lane_text w bars i l = codes "<g transform='translate(0 " ++ (decimal i ++ (codes "00)'>\n" ++ (label_text l
-    ++ (lines_by (bar_on w l) bars ++ codes "</g>\n"))))
+unfoldable pub lane_head : ℕ → List ℕ
+lane_head i = codes "<g transform='translate(0 " ++ (decimal i ++ codes "00)'>\n")
+
+unfoldable pub lane_text : Window → List Bar → ℕ → Lane → List ℕ
+lane_text w bars i l = lane_head i ++ (label_text l ++ (lines_by (bar_on w l) bars ++ codes "</g>\n"))
 
 -- each below the ones before it
 abbrev pub lanes_text : Window → List Bar → ℕ → List Lane → List ℕ

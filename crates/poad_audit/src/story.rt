@@ -139,7 +139,7 @@ fn wait_text(alloc: Global, wait: Wait) -> Result<Bytes, WantMemory>
     }
 }
 
-fn hold_text(alloc: Global, hold: Hold) -> Result<Bytes, WantMemory>
+pub(crate) fn hold_text(alloc: Global, hold: Hold) -> Result<Bytes, WantMemory>
     ensures { IfOk result (λ text. text ≡ printed.hold_text hold) }
 {
     let text = match hold {

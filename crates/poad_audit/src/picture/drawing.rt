@@ -1,5 +1,5 @@
 //! A picture, put together.
-ghost use Rattle.std.specs.Prelude.{◌≡◌, ◌+◌, ◌^◌, ◌<◌, IfOk, string_bytes};
+ghost use Rattle.std.specs.Prelude.{◌≡◌, ◌+◌, ◌^◌, ◌<◌, ◌++◌, IfOk, OnOk, string_bytes};
 ghost use Rattle.poad_audit.specs.Picture as drawn;
 
 use crate::picture::bar::Bar;
@@ -22,16 +22,43 @@ pub(crate) fn drawing(
 ) -> Result<Bytes, WantMemory>
     ensures { IfOk result (λ text. text ≡ drawn.drawing window calls bars.now lanes.now) }
 {
-    let rows = lanes.len() as u64;
-    let mut out = frame(alloc, rows)?.into_bytes();
-    put_sheet(&mut out)?;
-    out.extend_from_slice(title(alloc, window, calls)?.as_bytes())?;
-    put_legend(&mut out)?;
-    out.extend_from_slice(b"<g transform='translate(0 800)'>\n")?;
-    put_scale(alloc, &mut out, window, rows)?;
-    put_lanes(alloc, &mut out, window, bars, lanes)?;
-    out.extend_from_slice(b"</g>\n</svg>\n")?;
+    let mut out = frame(alloc, lanes.len() as u64)?.into_bytes();
+    put_front(alloc, &mut out, window, calls)?;
+    put_body(alloc, &mut out, window, bars, lanes)?;
     Ok(Bytes::from_vec(out))
+}
+
+/// Adds what stands above.
+#[tactic(auto, unfolding(crate::specs::Picture::front))]
+fn put_front(
+    alloc: Global,
+    out: &mut Vec<u8>,
+    window: Window,
+    calls: u64,
+) -> Result<(), WantMemory>
+    ensures { OnOk result (out.new.items ≡ out.old.items ++ drawn.front window calls) }
+{
+    let title = title(alloc, window, calls)?;
+    put_sheet(out)?;
+    out.extend_from_slice(title.as_bytes())?;
+    put_legend(out)
+}
+
+/// Adds the lanes with these bars, and their scale.
+#[tactic(auto, unfolding(crate::specs::Picture::body))]
+fn put_body(
+    alloc: Global,
+    out: &mut Vec<u8>,
+    window: Window,
+    bars: &[Bar],
+    lanes: &[Lane],
+) -> Result<(), WantMemory>
+    ensures { OnOk result (out.new.items ≡ out.old.items ++ drawn.body window bars.now lanes.now) }
+{
+    out.extend_from_slice(b"<g transform='translate(0 800)'>\n")?;
+    put_scale(alloc, out, window, lanes.len() as u64)?;
+    put_lanes(alloc, out, window, bars, lanes)?;
+    out.extend_from_slice(b"</g>\n</svg>\n")
 }
 
 /// The begin of the picture, with so many rows.

@@ -9,6 +9,7 @@ use poa_base::WantMemory;
 use std::alloc::Global;
 
 /// What stands before a lane.
+#[tactic(auto, unfolding(crate::specs::PictureLanes::label_text))]
 pub(crate) fn label_text(alloc: Global, lane: Lane) -> Result<String, WantMemory>
     ensures { IfOk result (λ text. string_bytes text ≡ drawn.label_text lane) }
 {
@@ -20,6 +21,7 @@ pub(crate) fn label_text(alloc: Global, lane: Lane) -> Result<String, WantMemory
     }
 }
 
+#[tactic(auto, unfolding(crate::specs::PictureLanes::label_text))]
 fn connection_text(alloc: Global, conn: u32) -> Result<String, WantMemory>
     ensures { IfOk result (λ text. string_bytes text ≡ drawn.label_text (Lane.Connection conn)) }
 {
@@ -27,6 +29,7 @@ fn connection_text(alloc: Global, conn: u32) -> Result<String, WantMemory>
     head_text(alloc, label.as_str())
 }
 
+#[tactic(auto, unfolding(crate::specs::PictureLanes::label_text))]
 fn call_text(alloc: Global, name: CallName) -> Result<String, WantMemory>
     ensures { IfOk result (λ text. string_bytes text ≡ drawn.label_text (Lane.Call name)) }
 {
@@ -52,6 +55,7 @@ fn band_label(band: Band) -> &'static str
     }
 }
 
+#[tactic(auto, unfolding(crate::specs::PictureLanes::label_text))]
 fn one_text(alloc: Global, band: Band, number: u32) -> Result<String, WantMemory>
     ensures { IfOk result (λ text. string_bytes text ≡ drawn.label_text (Lane.One band number)) }
 {

@@ -29,6 +29,7 @@ pub(crate) fn put_lanes(
     Ok(())
 }
 
+#[tactic(auto, unfolding(crate::specs::PictureLanes::lane_text))]
 fn lane_text(
     alloc: Global,
     window: Window,
@@ -39,12 +40,19 @@ fn lane_text(
     ensures { IfOk result (λ text. text ≡ drawn.lane_text window bars.now row lane) }
 {
     let label = label_text(alloc, lane)?;
-    let head = format!(in alloc; "<g transform='translate(0 {row}00)'>\n")?;
+    let head = lane_head(alloc, row)?;
     let mut out = head.into_bytes();
     out.extend_from_slice(label.as_bytes())?;
     put_bars(alloc, &mut out, window, lane, bars)?;
     out.extend_from_slice(b"</g>\n")?;
     Ok(Bytes::from_vec(out))
+}
+
+#[tactic(auto, unfolding(crate::specs::PictureLanes::lane_head))]
+fn lane_head(alloc: Global, row: u64) -> Result<String, WantMemory>
+    ensures { IfOk result (λ text. string_bytes text ≡ drawn.lane_head row) }
+{
+    format!(in alloc; "<g transform='translate(0 {row}00)'>\n")
 }
 
 /// Adds the bars that lie on a lane.
