@@ -5,4 +5,5 @@ pub mod Calls
 pub mod Verdicts
 pub mod Story
 pub mod Table
+pub mod Objects
 pub mod Explaining
