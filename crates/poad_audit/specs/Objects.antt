@@ -2,7 +2,7 @@
 use Rattle.std.specs.Prelude.{ℕ, List, [], ◌∷◌, ◌++◌, codes, decimal, Option, Some, None}
 use Rattle.poa_base.specs.declared.Command.{Command}
 use Rattle.poa_choose.specs.declared.MapFact.{MapFact}
-use Rattle.poa_choose.specs.declared.MapFact.TheVariants as map
+use Rattle.poa_choose.specs.declared.MapFact.TheVariants as slot
 use Rattle.text_words.specs.Token.{identity, path, spelled, tails}
 use Rattle.admin_line.specs.Command.{command_tokens}
 use Rattle.journal_explain.specs.declared.Change.{Change}
@@ -20,10 +20,10 @@ head_line names id line = codes "object" ++ (tails (path names ∷ identity id �
 
 -- what the active object map had before the first entry; or that there never was an activation
 abbrev pub first_line : MapFact → List Change → List ℕ
-first_line (map.Active n) changes = codes "at first activation " ++ (decimal n ++ codes " is active\n")
-first_line (map.Busy n) changes = codes "at first activation " ++ (decimal n ++ codes " is on its way in or out\n")
-first_line map.Free [] = codes "no such activation\n"
-first_line map.Free (c ∷ changes) = []
+first_line (slot.Active n) changes = codes "at first activation " ++ (decimal n ++ codes " is active\n")
+first_line (slot.Busy n) changes = codes "at first activation " ++ (decimal n ++ codes " is on its way in or out\n")
+first_line slot.Free [] = codes "no such activation\n"
+first_line slot.Free (c ∷ changes) = []
 
 abbrev pub moment_text : Moment → List ℕ
 moment_text (moment.Begins n) = codes "activation " ++ (decimal n ++ codes " begins")
