@@ -2,7 +2,6 @@
 ghost use Rattle.std.specs.Prelude.{◌≡◌, if◌then◌else◌, IfOk, Some, None, option_copied};
 ghost use Rattle.history_standing.specs.Arrivals as called;
 ghost use Rattle.history_standing.specs.Arrivals.{is_message as is_message_of};
-ghost use Rattle.history_standing.specs.Logs as logs;
 ghost use Rattle.history_standing.specs.Situations as situations;
 ghost use Rattle.journal_explain.specs.Objects as objects;
 ghost use Rattle.journal_explain.specs.Stories as stories;
@@ -12,6 +11,7 @@ use crate::wait::Wait;
 use core_arrivals::calls::call;
 use core_arrivals::queue::{is_crowded, waits};
 use core_run::Run;
+use core_standing::asked_commands::command_in;
 use core_turns::{Look, facts_of, look_at};
 use poa_base::{Call, Command, TryClone, WantMemory};
 use poa_choose::Facts;
@@ -92,16 +92,6 @@ fn call_of(run: &Run, arrival: u64) -> Option<&Call>
     found
 }
 
-/// The administrator's command of a call.
-fn command_of(call: Option<&Call>) -> Option<&Command>
-    ensures { option_copied result ≡ logs.command_in (option_copied call.entry) }
-{
-    match call {
-        Some(Call::Line { command, .. }) => Some(command),
-        _ => None,
-    }
-}
-
 /// The administrator's command that an entry admits, which does this.
 pub(crate) fn command_admitted(run: &Run, doing: Doing) -> Result<Option<Command>, WantMemory>
     ensures { IfOk result (λ command. command ≡ objects.command_by run.now.history doing) }
@@ -109,7 +99,7 @@ pub(crate) fn command_admitted(run: &Run, doing: Doing) -> Result<Option<Command
     let Doing::Admits(arrival) = doing else {
         return Ok(None);
     };
-    match command_of(call_of(run, arrival)) {
+    match command_in(call_of(run, arrival)) {
         Some(command) => Ok(Some(command.try_clone()?)),
         None => Ok(None),
     }
