@@ -17,12 +17,14 @@ use Rattle.poad_files.specs.Showing.{GainsNothing}
 use Rattle.poad_files.specs.Taking.{IsHeld, TakesConfig}
 use Rattle.poad_files.specs.declared.status.Status.{Status}
 use Rattle.poad_files.specs.declared.status.Status.TheVariants.{Ok, Illegal, ConfigRefused, JournalRefused, WriteFault, FileFault, WantMemory, NoFile, FileTooLong}
+use Rattle.poad_audit.specs.Objects.{object_text}
 use Rattle.poad_audit.specs.Story.{calls_text}
 use Rattle.poad_audit.specs.Table.{table_text}
 
--- what is told of the calls that are asked for, or of all
+-- what is told of the calls that are asked for, of an object, or of all calls
 abbrev pub text_asked : Selection → ℕ → Watch → List ℕ
 text_asked asked.All line w = table_text line w.came.items
+text_asked (asked.Object path oid) line w = object_text line path oid w.object
 text_asked which line w = calls_text line w.trails.items
 
 abbrev pub watch_text : ℕ → Watch → List ℕ

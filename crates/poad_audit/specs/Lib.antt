@@ -5,6 +5,7 @@ pub mod Calls
 pub mod Verdicts
 pub mod Story
 pub mod Table
+pub mod Objects
 pub mod Explaining
 pub mod PicturePhases
 pub mod PictureStyle

@@ -7,6 +7,7 @@ ghost use Rattle.poad_files.specs.Taking.{HoldsStill};
 ghost use Rattle.poad_audit.specs.Explaining.{EndsExplain, ExplainsFiles, ExplainsJournal, HasLine, Tells, told_text, watch_text as watch_text_of};
 
 use crate::auditing::JOURNAL_LIMIT;
+use crate::object_text::object_text;
 use crate::printing::due_line;
 use crate::story::calls_text;
 use crate::table::table_text;
@@ -133,9 +134,11 @@ fn watch_text(alloc: Global, line: u64, watch: &Watch) -> Result<Bytes, WantMemo
 {
     match &watch.asked {
         Selection::All => table_text(alloc, line, watch.came.as_slice()),
-        Selection::Arrival(_)
-        | Selection::Call { .. }
-        | Selection::Object { .. }
-        | Selection::Picture { .. } => calls_text(alloc, line, watch.trails.as_slice()),
+        Selection::Object { path, oid } => { object_text(alloc, line, path, oid, &watch.object) }
+        Selection::Arrival(_) | Selection::Call { .. } | Selection::Picture { .. } => calls_text(
+            alloc,
+            line,
+            watch.trails.as_slice(),
+        ),
     }
 }
