@@ -8,7 +8,7 @@ crates/poad_audit/specs/Picture*.antt, which are written here anew: what both dr
 import re
 import sys
 
-AT_WORK = ('trying', 'bringing', 'serving', 'running')
+AT_WORK = ('trying', 'bringing', 'serving', 'running', 'closing')
 HELD = [('manager', r'held: manager \d+ is HOLDING'),
         ('trial', r'held: a trial of a child of adapter \d+ is in flight'),
         ('turn', r'held: another request is in flight in adapter \d+'),
@@ -21,6 +21,7 @@ WORDS = {
     'bringing': 'the servant activator is asked',
     'serving': 'a worker has it',
     'running': 'its servant ran',
+    'closing': 'its reply was taken before its end',
     'pending': 'its answer waits',
     'replying': 'its reply waits to be taken',
 }
@@ -32,6 +33,7 @@ FREE = [
     ('bringing', '#b39ddb', 8900, 300, 'the servant activator is asked'),
     ('serving', '#90c4f0', 2300, 300, 'a worker has it'),
     ('running', '#1f6fb4', 4500, 300, 'its servant ran'),
+    ('closing', '#26734d', 13300, 440, 'its reply was taken before its end'),
     ('pending', '#2e8b3d;stroke-width:14;stroke-dasharray:20 20', 13300, 300, 'its answer waits'),
     ('replying', '#2e8b3d;stroke-width:14', 11100, 300, 'its reply waits to be taken'),
 ]
@@ -47,8 +49,8 @@ CAUSES = [
 STEPS = ((20, 1), (100, 5), (200, 10), (1000, 50), (2000, 100), (10000, 500), (20000, 1000), (100000, 5000), (200000, 10000))
 
 
-def phase_of(words, verdict, asks):
-    """The phase that begins with an event, and its words."""
+def phase_of(words, verdict, asks, before):
+    """The phase that begins with an event behind another one, and its words."""
     for name, pattern in HELD:
         if re.fullmatch(pattern, words):
             return name, words
@@ -60,11 +62,13 @@ def phase_of(words, verdict, asks):
         phase = 'serving'
     elif words == 'its servant ran':
         phase = 'running'
-    elif words == 'its reply was taken for writing' or not asks:
-        return 'over', ''
+    elif words == 'its reply was taken for writing':
+        phase = 'closing' if before == 'running' else 'over'
+    elif not asks or (words == 'the request ended' and before == 'closing'):
+        phase = 'over'
     else:
         phase = 'replying'
-    return phase, WORDS[phase]
+    return phase, WORDS.get(phase)
 
 
 def told(path):
@@ -91,7 +95,7 @@ def bars_of(call, entries):
     """Each phase of a call: (arrival, phase, words, worker, activation, begin, end)."""
     arrival, _, _, steps = call
     asks = asks_reply(entries[steps[0][0]])
-    now, worker, activation, begin = ('over', ''), None, None, 0
+    now, worker, activation, begin = ('over', None), None, None, 0
     for entry, words in steps:
         yield (arrival, *now, worker, activation, begin, entry)
         verdict = ['']
@@ -99,7 +103,7 @@ def bars_of(call, entries):
             _, by, _, *verdict = entries[entry].split()
             worker = int(by)
             activation = int(verdict[1]) if verdict[0] in ('serve', 'incarnate') else None
-        now, begin = phase_of(words, verdict, asks), entry
+        now, begin = phase_of(words, verdict, asks, now[0]), entry
     yield (arrival, *now, worker, activation, begin, None)
 
 

@@ -32,7 +32,7 @@ ended entry b = record b { end = Some entry }
 abbrev pub next : Bool → Step → Bar → Bar
 next asked s b = record {
   call = b.call;
-  phase = phase_by asked s.event;
+  phase = phase_by asked b.phase s.event;
   worker = worker_by s.event b.worker;
   activation = activation_by s.event b.activation;
   begin = s.entry;

@@ -35,16 +35,25 @@ abbrev pub brought : Bool → Bool → Phase
 brought asks true = phase.Serving
 brought asks false = replied asks
 
--- and with each event
-abbrev pub phase_by : Bool → Event → Phase
-phase_by asks event.Arrived = phase.Waiting
-phase_by asks (event.Waits wait) = waiting wait
-phase_by asks (event.Admitted worker row v) = decided asks v
-phase_by asks (event.Tried answer) = phase.Waiting
-phase_by asks (event.Incarnated b) = brought asks b
-phase_by asks event.Ran = phase.Running
-phase_by asks event.Ended = replied asks
-phase_by asks event.Collected = phase.Over
+-- its reply may be taken as soon as its servant ran, before the request ends
+abbrev pub taken : Phase → Phase
+taken phase.Running = phase.Closing
+taken other = phase.Over
+
+abbrev pub done : Bool → Phase → Phase
+done asks phase.Closing = phase.Over
+done asks other = replied asks
+
+-- and with each event, behind another phase
+abbrev pub phase_by : Bool → Phase → Event → Phase
+phase_by asks before event.Arrived = phase.Waiting
+phase_by asks before (event.Waits wait) = waiting wait
+phase_by asks before (event.Admitted worker row v) = decided asks v
+phase_by asks before (event.Tried answer) = phase.Waiting
+phase_by asks before (event.Incarnated b) = brought asks b
+phase_by asks before event.Ran = phase.Running
+phase_by asks before event.Ended = done asks before
+phase_by asks before event.Collected = taken before
 
 -- the activation that a verdict names
 abbrev pub activation_of : Verdict → Option ℕ
@@ -58,6 +67,7 @@ is_work phase.Trying = true
 is_work phase.Bringing = true
 is_work phase.Serving = true
 is_work phase.Running = true
+is_work phase.Closing = true
 is_work other = false
 
 abbrev pub is_over : Phase → Bool
@@ -80,6 +90,7 @@ phase_word phase.Trying = codes "trying"
 phase_word phase.Bringing = codes "bringing"
 phase_word phase.Serving = codes "serving"
 phase_word phase.Running = codes "running"
+phase_word phase.Closing = codes "closing"
 phase_word phase.Pending = codes "pending"
 phase_word phase.Replying = codes "replying"
 phase_word phase.Over = codes "over"
@@ -92,6 +103,7 @@ phase_text phase.Trying = codes "the adapter activator is asked"
 phase_text phase.Bringing = codes "the servant activator is asked"
 phase_text phase.Serving = codes "a worker has it"
 phase_text phase.Running = codes "its servant ran"
+phase_text phase.Closing = codes "its reply was taken before its end"
 phase_text phase.Pending = codes "its answer waits"
 phase_text phase.Replying = codes "its reply waits to be taken"
 phase_text phase.Over = codes "it is over"
@@ -101,4 +113,5 @@ abbrev pub causes : List Hold
 causes = hold.Manager 0 ∷ hold.Trial 0 ∷ hold.Turn 0 ∷ hold.Main ∷ hold.Id 0 ∷ hold.Change 0 ∷ []
 
 abbrev pub free_phases : List Phase
-free_phases = phase.Waiting ∷ phase.Trying ∷ phase.Bringing ∷ phase.Serving ∷ phase.Running ∷ phase.Pending ∷ phase.Replying ∷ []
+free_phases =
+    phase.Waiting ∷ phase.Trying ∷ phase.Bringing ∷ phase.Serving ∷ phase.Running ∷ phase.Closing ∷ phase.Pending ∷ phase.Replying ∷ []

@@ -14,6 +14,7 @@ colour_rule phase.Trying = codes "<style>.trying{stroke:#e6a3d7}</style>\n"
 colour_rule phase.Bringing = codes "<style>.bringing{stroke:#b39ddb}</style>\n"
 colour_rule phase.Serving = codes "<style>.serving{stroke:#90c4f0}</style>\n"
 colour_rule phase.Running = codes "<style>.running{stroke:#1f6fb4}</style>\n"
+colour_rule phase.Closing = codes "<style>.closing{stroke:#26734d}</style>\n"
 colour_rule phase.Pending = codes "<style>.pending{stroke:#2e8b3d;stroke-width:14;stroke-dasharray:20 20}</style>\n"
 colour_rule phase.Replying = codes "<style>.replying{stroke:#2e8b3d;stroke-width:14}</style>\n"
 colour_rule other = codes "<style>.over{stroke:none}</style>\n"
@@ -53,6 +54,7 @@ free_sample phase.Trying = codes "<path class='trying' d='M6700 300H7000'/><text
 free_sample phase.Bringing = codes "<path class='bringing' d='M8900 300H9200'/><text x='9250' y='330'>the servant activator is asked</text>\n"
 free_sample phase.Replying = codes "<path class='replying ended' d='M11100 300H11400'/><text x='11450' y='330'>its reply waits to be taken</text>\n"
 free_sample phase.Pending = codes "<path class='pending ended' d='M13300 300H13600'/><text x='13650' y='330'>its answer waits</text>\n"
+free_sample phase.Closing = codes "<path class='closing' d='M13300 440H13600'/><text x='13650' y='470'>its reply was taken before its end</text>\n"
 free_sample other = codes ""
 
 unfoldable pub held_sample : Hold → List ℕ

@@ -50,7 +50,7 @@ impl Bar {
     {
         Bar {
             call: self.call,
-            phase: Phase::by(asked, &step.event),
+            phase: self.phase.then(asked, &step.event),
             worker: worker_by(&step.event, self.worker),
             activation: activation_by(&step.event, self.activation),
             begin: step.entry,

@@ -21,6 +21,8 @@ pub(crate) enum Phase {
     Serving,
     /// Its servant ran.
     Running,
+    /// Its servant ran, and its reply was taken, but the request is in flight.
+    Closing,
     /// It is a command that is done, and its answer waits.
     Pending,
     /// Its reply is fixed, and waits to be taken.
@@ -30,9 +32,9 @@ pub(crate) enum Phase {
 }
 
 impl Phase {
-    /// The phase that an event begins. `asked`: a reply is asked.
-    pub(crate) fn by(asked: bool, event: &Event) -> Phase
-        ensures { result ≡ drawn.phase_by asked event.now }
+    /// The phase that an event begins behind this one. `asked`: a reply is asked.
+    pub(crate) fn then(self, asked: bool, event: &Event) -> Phase
+        ensures { result ≡ drawn.phase_by asked self event.now }
     {
         match event {
             Event::Arrived | Event::Tried(_) => Phase::Waiting,
@@ -40,8 +42,28 @@ impl Phase {
             Event::Admitted { verdict, .. } => decided(asked, verdict),
             Event::Incarnated { brought } => brought_by(asked, *brought),
             Event::Ran => Phase::Running,
-            Event::Ended => replied(asked),
-            Event::Collected => Phase::Over,
+            Event::Ended => self.done(asked),
+            Event::Collected => self.taken(),
+        }
+    }
+
+    /// Its reply is taken.
+    fn taken(self) -> Phase
+        ensures { result ≡ drawn.taken self }
+    {
+        match self {
+            Phase::Running => Phase::Closing,
+            _ => Phase::Over,
+        }
+    }
+
+    /// The request ends.
+    fn done(self, asked: bool) -> Phase
+        ensures { result ≡ drawn.done asked self }
+    {
+        match self {
+            Phase::Closing => Phase::Over,
+            _ => replied(asked),
         }
     }
 
@@ -50,8 +72,16 @@ impl Phase {
         ensures { result ≡ drawn.is_work self }
     {
         match self {
-            Phase::Trying | Phase::Bringing | Phase::Serving | Phase::Running => true,
-            Phase::Waiting | Phase::Held(_) | Phase::Pending | Phase::Replying | Phase::Over => false,
+            Phase::Trying
+            | Phase::Bringing
+            | Phase::Serving
+            | Phase::Running
+            | Phase::Closing => true,
+            Phase::Waiting
+            | Phase::Held(_)
+            | Phase::Pending
+            | Phase::Replying
+            | Phase::Over => false,
         }
     }
 

@@ -71,6 +71,7 @@ pub(crate) fn put_legend(out: &mut Vec<u8>) -> Result<(), WantMemory>
         Phase::Bringing,
         Phase::Serving,
         Phase::Running,
+        Phase::Closing,
         Phase::Pending,
         Phase::Replying,
     ];
@@ -132,6 +133,7 @@ fn colour_rule(phase: Phase) -> &'static str
         Phase::Bringing => "<style>.bringing{stroke:#b39ddb}</style>\n",
         Phase::Serving => "<style>.serving{stroke:#90c4f0}</style>\n",
         Phase::Running => "<style>.running{stroke:#1f6fb4}</style>\n",
+        Phase::Closing => "<style>.closing{stroke:#26734d}</style>\n",
         Phase::Pending => "<style>.pending{stroke:#2e8b3d;stroke-width:14;stroke-dasharray:20 20}</style>\n",
         Phase::Replying => "<style>.replying{stroke:#2e8b3d;stroke-width:14}</style>\n",
         Phase::Held(_) | Phase::Over => "<style>.over{stroke:none}</style>\n",
@@ -225,6 +227,9 @@ fn free_sample(phase: Phase) -> &'static str
         }
         Phase::Pending => {
             "<path class='pending ended' d='M13300 300H13600'/><text x='13650' y='330'>its answer waits</text>\n"
+        }
+        Phase::Closing => {
+            "<path class='closing' d='M13300 440H13600'/><text x='13650' y='470'>its reply was taken before its end</text>\n"
         }
         Phase::Held(_) | Phase::Over => "",
     }
