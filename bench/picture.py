@@ -54,7 +54,7 @@ def phase_of(words, verdict, asks, before):
     for name, pattern in HELD:
         if re.fullmatch(pattern, words):
             return name, words
-    if words in ('arrived', 'waits for a worker') or words.startswith('the adapter'):
+    if words in ('arrived', 'waits for a worker') or words.startswith('the adapter activator made adapter'):
         phase = 'waiting'
     elif words.startswith('admitted') and verdict[0] in BY_VERDICT:
         phase = BY_VERDICT[verdict[0]]

@@ -1,5 +1,7 @@
 -- The phases of a call that a picture shows, and how each looks.
 use Rattle.std.specs.Prelude.{ℕ, Bool, true, false, List, [], ◌∷◌, codes, Option, Some, None}
+use Rattle.poa_base.specs.declared.Attempt.{Attempt}
+use Rattle.poa_base.specs.declared.Attempt.TheVariants as attempt
 use Rattle.poa_base.specs.declared.Verdict.{Verdict}
 use Rattle.poa_base.specs.declared.Verdict.TheVariants as verdict
 use Rattle.held_queue.specs.declared.Hold.{Hold}
@@ -35,6 +37,11 @@ abbrev pub brought : Bool → Bool → Phase
 brought asks true = phase.Serving
 brought asks false = replied asks
 
+-- where the adapter activator made the child, it is admitted anew
+abbrev pub tried : Bool → Attempt → Phase
+tried asks (attempt.Yes number) = phase.Waiting
+tried asks other = replied asks
+
 -- its reply may be taken as soon as its servant ran, before the request ends
 abbrev pub taken : Phase → Phase
 taken phase.Running = phase.Closing
@@ -49,7 +56,7 @@ abbrev pub phase_by : Bool → Phase → Event → Phase
 phase_by asks before event.Arrived = phase.Waiting
 phase_by asks before (event.Waits wait) = waiting wait
 phase_by asks before (event.Admitted worker row v) = decided asks v
-phase_by asks before (event.Tried answer) = phase.Waiting
+phase_by asks before (event.Tried answer) = tried asks answer
 phase_by asks before (event.Incarnated b) = brought asks b
 phase_by asks before event.Ran = phase.Running
 phase_by asks before event.Ended = done asks before

@@ -4,7 +4,7 @@ ghost use Rattle.poad_audit.specs.PicturePhases as drawn;
 
 use held_queue::Hold;
 use journal_explain::{Event, Wait};
-use poa_base::Verdict;
+use poa_base::{Attempt, Verdict};
 
 /// A phase of a call.
 #[derive(Clone, Copy, Drop)]
@@ -37,9 +37,10 @@ impl Phase {
         ensures { result ≡ drawn.phase_by asked self event.now }
     {
         match event {
-            Event::Arrived | Event::Tried(_) => Phase::Waiting,
+            Event::Arrived => Phase::Waiting,
             Event::Waits(wait) => waiting(*wait),
             Event::Admitted { verdict, .. } => decided(asked, verdict),
+            Event::Tried(answer) => tried(asked, *answer),
             Event::Incarnated { brought } => brought_by(asked, *brought),
             Event::Ran => Phase::Running,
             Event::Ended => self.done(asked),
@@ -117,6 +118,15 @@ fn decided(asked: bool, verdict: &Verdict) -> Phase
         | Verdict::Here
         | Verdict::Unknown
         | Verdict::Answer(_) => replied(asked),
+    }
+}
+
+fn tried(asked: bool, answer: Attempt) -> Phase
+    ensures { result ≡ drawn.tried asked answer }
+{
+    match answer {
+        Attempt::Yes { .. } => Phase::Waiting,
+        Attempt::No | Attempt::Raised | Attempt::Dying => replied(asked),
     }
 }
 
