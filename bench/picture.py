@@ -3,7 +3,7 @@
 
 TOLD is what `poad explain FILE JOURNAL --arrival A` prints of each call, one behind the other, and JOURNAL the journal itself, which
 says what was decided and who asks a reply. The picture goes to standard output. It is drawn by the rules of
-crates/poad_audit/specs/Picture*.antt, which are written here anew: what both draw is compared byte by byte.
+crates/poad_audit/specs/Picture*.antt, which are written here anew, so that what the two draw can be compared byte by byte.
 """
 import re
 import sys
