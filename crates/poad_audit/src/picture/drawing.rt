@@ -30,12 +30,7 @@ pub(crate) fn drawing(
 
 /// Adds what stands above.
 #[tactic(auto, unfolding(crate::specs::Picture::front))]
-fn put_front(
-    alloc: Global,
-    out: &mut Vec<u8>,
-    window: Window,
-    calls: u64,
-) -> Result<(), WantMemory>
+fn put_front(alloc: Global, out: &mut Vec<u8>, window: Window, calls: u64) -> Result<(), WantMemory>
     ensures { OnOk result (out.new.items ≡ out.old.items ++ drawn.front window calls) }
 {
     let title = title(alloc, window, calls)?;
@@ -78,5 +73,7 @@ fn title(alloc: Global, window: Window, calls: u64) -> Result<String, WantMemory
     ensures { IfOk result (λ text. string_bytes text ≡ drawn.title window calls) }
 {
     let (from, to) = (window.from, u64::from(window.from) + u64::from(window.span));
-    format!(in alloc; "<text class='lane' x='100' y='170'>entries {from} to {to}, {calls} calls</text>\n")
+    format!(in alloc;
+        "<text class='lane' x='100' y='170'>entries {from} to {to}, {calls} calls</text>\n"
+    )
 }

@@ -83,7 +83,5 @@ fn head_text(alloc: Global, label: &str) -> Result<String, WantMemory>
 fn row_text(alloc: Global, label: &str) -> Result<String, WantMemory>
     ensures { IfOk result (λ text. string_bytes text ≡ drawn.row_text label.now) }
 {
-    format!(in alloc;
-        "<path class='row' d='M1500 50H15500'/><text x='200' y='80'>{label}</text>\n"
-    )
+    format!(in alloc; "<path class='row' d='M1500 50H15500'/><text x='200' y='80'>{label}</text>\n")
 }

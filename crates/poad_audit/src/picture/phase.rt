@@ -73,16 +73,10 @@ impl Phase {
         ensures { result ≡ drawn.is_work self }
     {
         match self {
-            Phase::Trying
-            | Phase::Bringing
-            | Phase::Serving
-            | Phase::Running
-            | Phase::Closing => true,
-            Phase::Waiting
-            | Phase::Held(_)
-            | Phase::Pending
-            | Phase::Replying
-            | Phase::Over => false,
+            Phase::Trying | Phase::Bringing | Phase::Serving | Phase::Running | Phase::Closing =>
+                true,
+            Phase::Waiting | Phase::Held(_) | Phase::Pending | Phase::Replying | Phase::Over =>
+                false,
         }
     }
 
@@ -133,7 +127,11 @@ fn tried(asked: bool, answer: Attempt) -> Phase
 fn brought_by(asked: bool, brought: bool) -> Phase
     ensures { result ≡ drawn.brought asked brought }
 {
-    if brought { Phase::Serving } else { replied(asked) }
+    if brought {
+        Phase::Serving
+    } else {
+        replied(asked)
+    }
 }
 
 /// The phase of a call whose reply is fixed.

@@ -17,7 +17,9 @@ pub(crate) fn put_scale(
 ) -> Result<(), WantMemory>
     ensures { OnOk result (out.new.items ≡ out.old.items ++ drawn.scale window rows) }
 {
-    let twenty = [0, 1, 2, 3, 4, 5, 6, 7, 8, 9, 10, 11, 12, 13, 14, 15, 16, 17, 18, 19];
+    let twenty = [
+        0, 1, 2, 3, 4, 5, 6, 7, 8, 9, 10, 11, 12, 13, 14, 15, 16, 17, 18, 19,
+    ];
     put_lines(alloc, out, window, rows, &twenty)
 }
 
@@ -71,7 +73,9 @@ fn line_head(alloc: Global, x: u64) -> Result<String, WantMemory>
 fn line_tail(alloc: Global, rows: u64, entry: u64) -> Result<String, WantMemory>
     ensures { IfOk result (λ text. string_bytes text ≡ drawn.line_tail rows entry) }
 {
-    format!(in alloc; "<path class='grid' d='M0 0V{rows}00'/><text class='tick' y='-30'>{entry}</text></g>\n")
+    format!(in alloc;
+        "<path class='grid' d='M0 0V{rows}00'/><text class='tick' y='-30'>{entry}</text></g>\n"
+    )
 }
 
 /// How many entries lie between two lines.

@@ -134,7 +134,8 @@ fn colour_rule(phase: Phase) -> &'static str
         Phase::Serving => "<style>.serving{stroke:#90c4f0}</style>\n",
         Phase::Running => "<style>.running{stroke:#1f6fb4}</style>\n",
         Phase::Closing => "<style>.closing{stroke:#26734d}</style>\n",
-        Phase::Pending => "<style>.pending{stroke:#2e8b3d;stroke-width:14;stroke-dasharray:20 20}</style>\n",
+        Phase::Pending =>
+            "<style>.pending{stroke:#2e8b3d;stroke-width:14;stroke-dasharray:20 20}</style>\n",
         Phase::Replying => "<style>.replying{stroke:#2e8b3d;stroke-width:14}</style>\n",
         Phase::Held(_) | Phase::Over => "<style>.over{stroke:none}</style>\n",
     }
