@@ -1,5 +1,5 @@
 -- The lanes of a picture: a row for each call, by connections, for each worker and for each activation.
-use Rattle.std.specs.Prelude.{ℕ, ◌+◌, ◌==◌, nat_lt, Bool, true, false, ◌&&◌, if◌then◌else◌, List, [], ◌∷◌, ◌++◌, length, map, filter, codes, decimal, Option, Some, None}
+use Rattle.std.specs.Prelude.{ℕ, ◌+◌, ◌==◌, nat_lt, Bool, false, if◌then◌else◌, List, [], ◌∷◌, ◌++◌, length, map, filter, codes, decimal, Option, Some, None}
 use Rattle.std.specs.List.{flat_map, insert, list_any}
 use Rattle.journal_explain.specs.declared.CallName.{CallName}
 use Rattle.journal_explain.specs.declared.Trail.{Trail}

@@ -1,6 +1,6 @@
 //! The lanes of a picture.
 ghost use Rattle.std.specs.Prelude.{◌≡◌, ◌++◌, map, IfOk, OnOk};
-ghost use Rattle.std.specs.List.{flat_map, list_any};
+ghost use Rattle.std.specs.List.{flat_map};
 ghost use Rattle.poad_audit.specs.PictureLanes as drawn;
 ghost use Rattle.poad_audit.specs.declared.picture.lane.Lane.TheVariants.{One};
 
