@@ -18,6 +18,7 @@ use Rattle.poad_files.specs.Taking.{IsHeld, TakesConfig}
 use Rattle.poad_files.specs.declared.status.Status.{Status}
 use Rattle.poad_files.specs.declared.status.Status.TheVariants.{Ok, Illegal, ConfigRefused, JournalRefused, WriteFault, FileFault, WantMemory, NoFile, FileTooLong}
 use Rattle.poad_audit.specs.Objects.{object_text}
+use Rattle.poad_audit.specs.Picture.{picture_text}
 use Rattle.poad_audit.specs.Story.{calls_text}
 use Rattle.poad_audit.specs.Table.{table_text}
 
@@ -25,6 +26,7 @@ use Rattle.poad_audit.specs.Table.{table_text}
 abbrev pub text_asked : Selection → ℕ → Watch → List ℕ
 text_asked asked.All line w = table_text line w.came.items
 text_asked (asked.Object path oid) line w = object_text line path oid w.object
+text_asked (asked.Picture from to) line w = picture_text w.trails.items from to
 text_asked which line w = calls_text line w.trails.items
 
 abbrev pub watch_text : ℕ → Watch → List ℕ

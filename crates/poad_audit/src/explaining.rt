@@ -8,6 +8,7 @@ ghost use Rattle.poad_audit.specs.Explaining.{EndsExplain, ExplainsFiles, Explai
 
 use crate::auditing::JOURNAL_LIMIT;
 use crate::object_text::object_text;
+use crate::picture::picture_text;
 use crate::printing::due_line;
 use crate::story::calls_text;
 use crate::table::table_text;
@@ -135,10 +136,11 @@ fn watch_text(alloc: Global, line: u64, watch: &Watch) -> Result<Bytes, WantMemo
     match &watch.asked {
         Selection::All => table_text(alloc, line, watch.came.as_slice()),
         Selection::Object { path, oid } => { object_text(alloc, line, path, oid, &watch.object) }
-        Selection::Arrival(_) | Selection::Call { .. } | Selection::Picture { .. } => calls_text(
-            alloc,
-            line,
-            watch.trails.as_slice(),
-        ),
+        Selection::Picture { from, to } => {
+            picture_text(alloc, watch.trails.as_slice(), *from, *to)
+        }
+        Selection::Arrival(_) | Selection::Call { .. } => {
+            calls_text(alloc, line, watch.trails.as_slice())
+        }
     }
 }
