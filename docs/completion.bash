@@ -5,7 +5,7 @@ _poad() {
     case ${COMP_WORDS[1]} in
         serve) options='--lanes --workers --run --state --journal --limit --help' ;;
         audit) options='--limit --conn --in --out --help' ;;
-        explain) options='--arrival --call --limit --help' ;;
+        explain) options='--arrival --call --object --picture --from --to --limit --help' ;;
         call) options='--as --hops --help' ;;
         build) options='--unproved --jobs --help' ;;
         *) options='--help' ;;
@@ -16,7 +16,7 @@ _poad() {
         mapfile -t COMPREPLY < <(compgen -W "$commands" -- "$word")
     elif [ "$before" = --as ]; then
         mapfile -t COMPREPLY < <(compgen -W 'v i u b o' -- "$word")
-    elif [[ $before = --hops || $before = --conn || $before = --arrival || $before = --call || $before = --limit || $before = --lanes || $before = --workers || $before = --run || $before = --jobs ]]; then
+    elif [[ $before = --hops || $before = --conn || $before = --arrival || $before = --call || $before = --object || $before = --from || $before = --to || $before = --limit || $before = --lanes || $before = --workers || $before = --run || $before = --jobs ]]; then
         COMPREPLY=()
     elif [[ $word = -* && $before != --journal && $before != --state && $before != --in && $before != --out ]]; then
         mapfile -t COMPREPLY < <(compgen -W "$options" -- "$word")

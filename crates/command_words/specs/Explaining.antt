@@ -1,11 +1,13 @@
 -- The words behind `explain`: the file of a configuration, that of a journal, and options in any place.
 use Rattle.std.specs.Prelude.{ℕ, List, [], ◌∷◌, Option, Some, None, option_map, codes}
+use Rattle.text_words.specs.Identity.{id_of}
+use Rattle.text_words.specs.Path.{path_of}
 use Rattle.command_words.specs.Arguments.{exactly_two}
 use Rattle.command_words.specs.Numbers.{number_in}
 use Rattle.command_words.specs.Serving.{limit_of}
 use Rattle.command_words.specs.Settings.{◌>>=◌, Setting, among, perhaps, settings_of, values_of}
 use Rattle.command_words.specs.declared.calls_asked.CallsAsked.{CallsAsked}
-use Rattle.command_words.specs.declared.calls_asked.CallsAsked.TheVariants.{Arrival, Call, All}
+use Rattle.command_words.specs.declared.calls_asked.CallsAsked.TheVariants.{Arrival, Call, Object, Picture, All}
 use Rattle.command_words.specs.declared.explain_words.ExplainWords.{ExplainWords}
 use Rattle.command_words.specs.declared.optioned.Optioned.TheVariants as optioned
 
@@ -30,23 +32,49 @@ pair_of (a ∷ b ∷ c ∷ values) = None
 abbrev pub call_of : List ℕ × List ℕ → Option CallsAsked
 call_of words = number_in 0 3999999 words.0 >>= (λ conn. option_map (Call conn) (number_in 0 4294967295 words.1))
 
--- one call by its number or by its id, or what came of all
-abbrev pub calls_by : Option (List ℕ) → Option (List ℕ × List ℕ) → Option CallsAsked
-calls_by None None = Some All
-calls_by (Some word) None = option_map Arrival (number_in 0 3999999 word)
-calls_by None (Some words) = call_of words
-calls_by (Some word) (Some words) = None
+-- an object's id in the adapters of a path
+abbrev pub object_of : List ℕ × List ℕ → Option CallsAsked
+object_of words = path_of words.0 >>= (λ path. option_map (Object path) (id_of words.1))
+
+-- the number of an entry that a word says, which isn't below this one; where there is no word it is the other
+abbrev pub entry_of : Option (List ℕ) → ℕ → ℕ → Option ℕ
+entry_of None least otherwise = Some otherwise
+entry_of (Some word) least otherwise = number_in least 4294967295 word
+
+-- the first and the last entry of a picture: `--from` and `--to` stand with `--picture` alone
+abbrev pub span_by : Option (List ℕ) → Option (List ℕ) → Option (List ℕ) → Option (Option (ℕ × ℕ))
+span_by (Some flag) from to = entry_of from 0 0 >>= (λ first. option_map (λ last. Some (first, last)) (entry_of to first 4294967295))
+span_by None None None = Some None
+span_by None from to = None
+
+abbrev pub span_of : List Setting → Option (Option (ℕ × ℕ))
+span_of settings =
+    perhaps (codes "--picture") settings >>= (λ picture.
+    perhaps (codes "--from") settings >>= (λ from.
+    perhaps (codes "--to") settings >>= (λ to. span_by picture from to)))
+
+-- one of these: a call by its number or by its id, an object, a picture; or what came of all
+abbrev pub calls_by : Option (List ℕ) → Option (List ℕ × List ℕ) → Option (List ℕ × List ℕ) → Option (ℕ × ℕ) → Option CallsAsked
+calls_by None None None None = Some All
+calls_by (Some word) None None None = option_map Arrival (number_in 0 3999999 word)
+calls_by None (Some words) None None = call_of words
+calls_by None None (Some words) None = object_of words
+calls_by None None None (Some span) = Some (Picture span.0 span.1)
+calls_by arrival call object span = None
 
 abbrev pub calls_of : List Setting → Option CallsAsked
 calls_of settings =
-    perhaps (codes "--arrival") settings >>= (λ arrival. pair_of (values_of (codes "--call") settings) >>= calls_by arrival)
+    perhaps (codes "--arrival") settings >>= (λ arrival.
+    pair_of (values_of (codes "--call") settings) >>= (λ call.
+    pair_of (values_of (codes "--object") settings) >>= (λ object.
+    span_of settings >>= calls_by arrival call object)))
 
--- two files, the calls, and the other option at most once
+-- two files, what is asked, and the other option at most once
 abbrev pub explain_of : List Setting → Option Explain
 explain_of settings =
     exactly_two (Some (values_of [] settings)) >>= (λ files.
-    calls_of settings >>= (λ calls.
     (perhaps (codes "--limit") settings >>= limit_of) >>= (λ limit.
+    calls_of settings >>= (λ calls.
     Some (explain_with files.0 files.1 calls limit))))
 
 -- of the words behind `explain`

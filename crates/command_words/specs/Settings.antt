@@ -34,15 +34,23 @@ is_option Serve name = if bytes_eq name (codes "--lanes") then true else (if byt
     if bytes_eq name (codes "--journal") then true else bytes_eq name (codes "--limit")))))
 is_option Audit name = if bytes_eq name (codes "--limit") then true else (
     if bytes_eq name (codes "--conn") then true else (if bytes_eq name (codes "--in") then true else bytes_eq name (codes "--out")))
-is_option Explain name = if bytes_eq name (codes "--arrival") then true else (if bytes_eq name (codes "--call") then true else
-    bytes_eq name (codes "--limit"))
+is_option Explain name = if bytes_eq name (codes "--arrival") then true else (if bytes_eq name (codes "--call") then true else (
+    if bytes_eq name (codes "--object") then true else (if bytes_eq name (codes "--picture") then true else (
+    if bytes_eq name (codes "--from") then true else (if bytes_eq name (codes "--to") then true else bytes_eq name (codes "--limit"))))))
 is_option Call name = if bytes_eq name (codes "--as") then true else bytes_eq name (codes "--hops")
+
+-- the option has no value
+abbrev pub takes_none : Optioned → List ℕ → Bool
+takes_none Serve name = false
+takes_none Audit name = false
+takes_none Explain name = bytes_eq name (codes "--picture")
+takes_none Call name = false
 
 -- the option has two values
 abbrev pub takes_two : Optioned → List ℕ → Bool
 takes_two Serve name = false
 takes_two Audit name = false
-takes_two Explain name = bytes_eq name (codes "--call")
+takes_two Explain name = if bytes_eq name (codes "--call") then true else bytes_eq name (codes "--object")
 takes_two Call name = false
 
 -- the place of the word behind an option's name, and behind its first value
@@ -67,10 +75,18 @@ value_in w = if nat_lt (position_or_len is_equals w) (length w) then Some (after
 abbrev pub sets : List ℕ → Place → List ℕ → Option Setting × Place
 sets name next value = (Some (record { name = name; value = value }), next)
 
+-- an option with a value in the same word, and one by its name alone, which stands for itself where it has no value
+abbrev pub valued : Optioned → List ℕ → List ℕ → Option (Option Setting × Place)
+valued command name value =
+    if takes_none command name then None else option_map (sets name (behind_value command name)) (argument false value)
+
+abbrev pub bare : Optioned → List ℕ → Option Setting × Place
+bare command name = if takes_none command name then sets name among [] else (None, behind_name command name)
+
 -- an option whose name the word says, and perhaps its value
 abbrev pub option_of : Optioned → List ℕ → Option (List ℕ) → Option (Option Setting × Place)
-option_of command name None = if is_option command name then Some (None, behind_name command name) else None
-option_of command name (Some value) = if is_option command name then option_map (sets name (behind_value command name)) (argument false value) else None
+option_of command name None = if is_option command name then Some (bare command name) else None
+option_of command name (Some value) = if is_option command name then valued command name value else None
 
 -- what a word in front of `--` gives; 45 is `-`
 abbrev pub free_word : Optioned → List ℕ → Option (Option Setting × Place)

@@ -3,7 +3,7 @@ use crate::audit_words::AuditWords;
 use crate::explain_words::ExplainWords;
 
 /// What the words of a command line ask for.
-#[derive(Clone, Copy)]
+#[derive(Drop)]
 pub enum Command<'a> {
     /// To serve messages by the configuration in the file of this name, or by the built-in one.
     Answer(Option<&'a str>),

@@ -3,6 +3,7 @@
 //! `call`, `audit` and `explain`, which have options, are read by hand.
 #![tactic(auto)]
 
+mod asking;
 mod audit_words;
 mod calling;
 mod calls_asked;

@@ -111,12 +111,35 @@ fn option_of<'a>(
         return None;
     }
     match value {
-        Some(value) => {
-            let setting = setting_of(name, value, false)?;
-            Some((Some(setting), behind_value(command, name)))
-        }
-        None => Some((None, behind_name(command, name))),
+        Some(value) => valued(command, name, value),
+        None => Some(bare(command, name)),
     }
+}
+
+// The same of an option with a value in the same word.
+fn valued<'a>(
+    command: Optioned,
+    name: &'a str,
+    value: &'a str,
+) -> Option<(Option<Setting<'a>>, Place<'a>)>
+    ensures { option_map seen_step result ≡ spec.valued command name.now value.now }
+{
+    if takes_none(command, name) {
+        return None;
+    }
+    let setting = setting_of(name, value, false)?;
+    Some((Some(setting), behind_value(command, name)))
+}
+
+// The same of an option by its name alone.
+fn bare<'a>(command: Optioned, name: &'a str) -> (Option<Setting<'a>>, Place<'a>)
+    ensures { seen_step result ≡ spec.bare command name.now }
+{
+    if takes_none(command, name) {
+        let given = Setting { name, value: "" };
+        return (Some(given), Place::Among);
+    }
+    (None, behind_name(command, name))
 }
 
 // The setting of a word as a value, where `is_behind` says that the end of the options came before.
@@ -153,12 +176,22 @@ fn behind_value<'a>(command: Optioned, name: &'a str) -> Place<'a>
     }
 }
 
+// Whether an option has no value.
+fn takes_none(command: Optioned, name: &str) -> bool
+    ensures { result ≡ spec.takes_none command name.now }
+{
+    match command {
+        Optioned::Explain => name == "--picture",
+        Optioned::Serve | Optioned::Call | Optioned::Audit => false,
+    }
+}
+
 // Whether an option has two values.
 fn takes_two(command: Optioned, name: &str) -> bool
     ensures { result ≡ spec.takes_two command name.now }
 {
     match command {
-        Optioned::Explain => name == "--call",
+        Optioned::Explain => matches!(name, "--call" | "--object"),
         Optioned::Serve | Optioned::Call | Optioned::Audit => false,
     }
 }
@@ -173,7 +206,10 @@ fn is_option(command: Optioned, name: &str) -> bool
         ),
         Optioned::Call => matches!(name, "--as" | "--hops"),
         Optioned::Audit => matches!(name, "--limit" | "--conn" | "--in" | "--out"),
-        Optioned::Explain => matches!(name, "--arrival" | "--call" | "--limit"),
+        Optioned::Explain => matches!(
+            name,
+            "--arrival" | "--call" | "--object" | "--picture" | "--from" | "--to" | "--limit"
+        ),
     }
 }
 

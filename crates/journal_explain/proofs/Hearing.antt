@@ -6,8 +6,10 @@ use Rattle.journal_audit.specs.declared.Auditor.{Auditor}
 use Rattle.journal_audit.specs.declared.Refusal.{Refusal}
 use Rattle.journal_audit.specs.Auditing.{Meets, Takes}
 use Rattle.journal_audit.specs.Judging.{Follows}
+use Rattle.journal_explain.specs.declared.doing.Doing.{Doing}
 use Rattle.journal_explain.specs.declared.watch.Watch.{Watch}
 use Rattle.journal_explain.specs.Explaining.{HasWatched, SeesWhereLegal}
+use Rattle.journal_explain.specs.Objects.{doing_of}
 use Rattle.journal_explain.specs.Watching.{HasLooked, HasNoted}
 use Rattle.journal_explain.proofs.Watched.{watched}
 
@@ -22,12 +24,13 @@ none_left (Some r) none = absurd (let f : true ≡ false = none in cc)
 
 -- the watch saw the entry
 module _ (e : Entry) (place : ℕ) (past after : Auditor) (old noted new : Watch) (here : place ≡ length past.run.history)
-    (notes : HasNoted past.run e place old noted) (looks : HasLooked after.run place noted new) where
+    (notes : HasNoted past.run e place old noted) (doing : Doing) (does : doing ≡ doing_of e)
+    (looks : HasLooked after.run place doing noted new) where
   saw : (a : Life) → after.run ≡ a → a ≡ with_entry e past.run → Follows past.run e → HasWatched past.run old → HasWatched a new
   saw a is one_more follows before =
       subst (λ (l : Life). HasWatched l new) (sym one_more)
-      (watched past.run e place here follows old noted new before notes
-      (subst (λ (l : Life). HasLooked l place noted new) (is ∙ one_more) looks))
+      (watched past.run e place here follows doing does old noted new before notes
+      (subst (λ (l : Life). HasLooked l place doing noted new) (is ∙ one_more) looks))
 
   sees_legal : (r s : Option Refusal) → Meets e past after r s → s ≡ None → SeesWhereLegal r past.run old → SeesWhereLegal s after.run new
   sees_legal (Some r) s met none before = absurd (let f : Some r ≡ None = sym met ∙ none in cc)

@@ -2,6 +2,7 @@ mod Standing
 mod Going
 mod Beginning
 mod Watched
+mod AtFirst
 mod Decided
 mod Heard
 mod Hearing

@@ -7,7 +7,9 @@ use Rattle.poa_base.specs.declared.Entry.{Entry}
 use Rattle.history_standing.specs.Arrivals.{call_of, is_message}
 use Rattle.poa_history.specs.Waiting.{is_waiting}
 use Rattle.poa_choose.specs.declared.Facts.{Facts}
-use Rattle.history_standing.specs.Situations.{facts_of}
+use Rattle.poa_choose.specs.declared.MapFact.{MapFact}
+use Rattle.history_standing.specs.Changes.{standing}
+use Rattle.history_standing.specs.Situations.{facts_of, slot_of}
 use Rattle.core_turns.specs.Looks.{looked}
 use Rattle.core_turns.specs.declared.Look.{Look}
 use Rattle.journal_explain.specs.declared.wait.Wait.{Wait}
@@ -45,6 +47,16 @@ called life entries t are knows =
 pub call_is : (life : Life) (entries : List Entry) (r : ℕ) (call : Option Call) → entries ≡ reverse life.history
     → call ≡ call_of (reverse entries) r → call ≡ call_of life.history r
 call_is life entries r call are is = is ∙ ap (λ (h : List Entry). call_of h r) (ap reverse are ∙ reverse-reverse life.history)
+
+-- what the map has for an id, by what is kept of the activations
+pub slot_stands : (life : Life) (s : State) (config : Config) → config ≡ life.config
+    → StateAgrees life.config life.run (opened life) life.history s → IsRun life.config life.run life.limit life.history
+    → (k : ℕ) (oid : List ℕ) (slot : MapFact) → slot ≡ slot_of config (seen s.standing).activations k oid
+    → slot ≡ slot_of life.config (standing life.config life.run life.history).activations k oid
+slot_stands life s config config_is is runs k oid slot found =
+    found
+    ∙ (ap (λ (c : Config). slot_of c (seen s.standing).activations k oid) config_is
+    ∙ (answers_state life.config life.run life.limit (opened life) life.history s runs is).slot k oid)
 
 -- what is given of them is what the history says
 module _ (life : Life) (r : ℕ) (config : Config) (run : ℕ) (config_is : config ≡ life.config) (run_is : run ≡ life.run) where

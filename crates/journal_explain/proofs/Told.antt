@@ -30,6 +30,7 @@ module _ (g : Givens) (entries : List Entry) (life : Life) (given : givens_of li
     told =
         All-weaker (HasSeen life) (IsTold life.config life.run life.history)
         (λ t seen. record { call = seen.call; steps = seen.steps }) w.trails.items sees.each;
+    object = record { opens = sees.object.opens; changes = sees.object.changes };
     came = sees.came;
   }
 

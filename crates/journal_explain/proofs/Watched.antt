@@ -12,21 +12,26 @@ use Rattle.history_standing.specs.Arrivals.{arrivals, call_of, is_message}
 use Rattle.history_standing.specs.Stages.{is_unadmitted}
 use Rattle.history_standing.specs.Situations.{facts_of}
 use Rattle.history_standing.proofs.CallsKept.{arrivals_kept, call_beyond, call_kept}
+use Rattle.poa_choose.specs.declared.MapFact.{MapFact}
 use Rattle.poa_history.specs.Life.{Life, with_entry}
 use Rattle.journal_audit.specs.Judging.{Follows}
 use Rattle.core_turns.specs.Looks.{looked}
 use Rattle.journal_explain.specs.declared.selection.Selection.{Selection}
 use Rattle.journal_explain.specs.declared.call_name.CallName.{CallName}
 use Rattle.journal_explain.specs.declared.came.Came.{Came}
+use Rattle.journal_explain.specs.declared.change.Change.{Change}
+use Rattle.journal_explain.specs.declared.doing.Doing.{Doing}
+use Rattle.journal_explain.specs.declared.object_trail.ObjectTrail.{ObjectTrail}
 use Rattle.journal_explain.specs.declared.step.Step.{Step}
 use Rattle.journal_explain.specs.declared.trail.Trail.{Trail}
 use Rattle.journal_explain.specs.declared.wait.Wait.{Wait}
 use Rattle.journal_explain.specs.declared.watch.Watch.{Watch}
-use Rattle.journal_explain.specs.Explaining.{HasSeen, HasWatched, came_in}
+use Rattle.journal_explain.specs.Explaining.{HasSeen, HasTraced, HasWatched, came_in}
 use Rattle.journal_explain.specs.Naming.{asks, is_all, name_of, names_in}
+use Rattle.journal_explain.specs.Objects.{changed_with, changes_in, command_by, doing_of, slot_asked}
 use Rattle.journal_explain.specs.Outcomes.{calls_in, came_with}
 use Rattle.journal_explain.specs.Stories.{GoesOn, IfArrived, IsNews, IsStory, event_of, step_at, wait_by, wait_of}
-use Rattle.journal_explain.specs.Watching.{Begins, BeginsIf, BeginsOne, HasLooked, HasNoted, Looks, Notes}
+use Rattle.journal_explain.specs.Watching.{Begins, BeginsIf, BeginsOne, HasLooked, HasNoted, Looks, Notes, Traces}
 use Rattle.journal_explain.proofs.Going.{named_still}
 
 below : (r n : ℕ) → r < n → nat_lt r n ≡ true
@@ -113,11 +118,11 @@ module _ (past : Life) (e : Entry) (which : Selection) (olds begun : List Trail)
   begun_if false name call came here more is same = others same is
 
 begun_each : (past : Life) (e : Entry) (which : Selection) (olds begun : List Trail) → All (HasSeen past) olds
-    → map (λ (t : Trail). t.name) olds ≡ names_in which past.history → Begins which (arrivals past.history) e olds begun
-    → AreBegun past e which begun
+    → map (λ (t : Trail). t.name) olds ≡ names_in which past.history
+    → Begins which (arrivals past.history) (length past.history) e olds begun → AreBegun past e which begun
 begun_each past (Arrive conn size call) which olds begun each names b =
     let name = name_of (arrivals past.history) conn call in
-    begun_if past (Arrive conn size call) which olds begun each names (asks which name) name call
+    begun_if past (Arrive conn size call) which olds begun each names (asks which name (length past.history)) name call
     (ap (λ (t : Bool). if t then Some call else call_of past.history (arrivals past.history)) (eq-eqb (arrivals past.history) (arrivals past.history) refl))
     refl (omega arith) refl b
 begun_each past e which olds begun each names same = others past e which olds begun each names same refl
@@ -173,11 +178,37 @@ module _ (past : Life) (e : Entry) (place : ℕ) (here : place ≡ length past.h
       ∙ ap (λ (k : ℕ). came_with past.config past.run past.history e k (calls_in past.config past.run past.history)) here)
   came_now false old new was is = is ∙ was
 
-  pub watched : (old noted new : Watch) → HasWatched past old → HasNoted past e place old noted → HasLooked (with_entry e past) place noted new
-      → HasWatched (with_entry e past) new
-  watched old noted new before notes looks =
+  traced : (which : Selection) (doing : Doing) → doing ≡ doing_of e → (old new : ObjectTrail) → HasTraced which past old
+      → Traces which (with_entry e past) place doing old new → HasTraced which (with_entry e past) new
+  traced which doing is old new had traces =
+      let c = past.config in
+      let run = past.run in
+      let h = past.history in
+      let now = slot_asked which c run (e ∷ h) in
+      record {
+        opens = traces.opens ∙ had.opens;
+        slot = traces.slot;
+        changes =
+            traces.changes
+            ∙ (ap₂ (λ (cs : List Change) (s : MapFact). cs ++ changed_with place doing (command_by (e ∷ h) doing) s now) had.changes had.slot
+            ∙ ap₂ (λ (k : ℕ) (d : Doing). changes_in which c run h ++ changed_with k d (command_by (e ∷ h) d) (slot_asked which c run h) now)
+            here is);
+      }
+
+  traced_now : (doing : Doing) → doing ≡ doing_of e → (old noted new : Watch) → HasTraced old.asked past old.object → noted.asked ≡ old.asked
+      → noted.object ≡ old.object → Traces noted.asked (with_entry e past) place doing noted.object new.object
+      → HasTraced old.asked (with_entry e past) new.object
+  traced_now doing is old noted new had asked same traces =
+      traced old.asked doing is old.object new.object had
+      (subst (λ (a : Selection). Traces a (with_entry e past) place doing old.object new.object) asked
+      (subst (λ (o : ObjectTrail). Traces noted.asked (with_entry e past) place doing o new.object) same traces))
+
+  pub watched : (doing : Doing) → doing ≡ doing_of e → (old noted new : Watch) → HasWatched past old → HasNoted past e place old noted
+      → HasLooked (with_entry e past) place doing noted new → HasWatched (with_entry e past) new
+  watched doing is old noted new before notes looks =
       let all : AreBegun past e old.asked notes.begun =
-      begun_each past e old.asked old.trails.items notes.begun before.each before.names notes.begins in
+      begun_each past e old.asked old.trails.items notes.begun before.each before.names
+      (subst (λ (k : ℕ). Begins old.asked (arrivals past.history) k e old.trails.items notes.begun) here notes.begins) in
       let same : new.asked ≡ old.asked = looks.asked ∙ notes.asked in
       record {
         names =
@@ -188,6 +219,9 @@ module _ (past : Life) (e : Entry) (place : ℕ) (here : place ≡ length past.h
             All-from_recursion (HasSeen (with_entry e past)) new.trails.items
             (seen_each notes.begun noted.trails.items new.trails.items (recursion_from_All (IsBegun past e) notes.begun all.each) notes.notes
             looks.looks);
+        object =
+            subst (λ (a : Selection). HasTraced a (with_entry e past) new.object) (sym same)
+            (traced_now doing is old noted new before.object notes.asked notes.object looks.object);
         came =
             came_now (is_all old.asked) old.came.items new.came.items before.came (looks.came ∙ notes.came)
             ∙ ap (λ (a : Selection). came_in a past.config past.run (e ∷ past.history)) (sym same);

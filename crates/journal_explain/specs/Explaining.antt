@@ -16,9 +16,11 @@ use Rattle.journal_explain.specs.declared.selection.Selection.{Selection}
 use Rattle.journal_explain.specs.declared.came.Came.{Came}
 use Rattle.journal_explain.specs.declared.explainer.Explainer.{Explainer}
 use Rattle.journal_explain.specs.declared.explanation.Explanation.{Explanation}
+use Rattle.journal_explain.specs.declared.object_trail.ObjectTrail.{ObjectTrail}
 use Rattle.journal_explain.specs.declared.trail.Trail.{Trail}
 use Rattle.journal_explain.specs.declared.watch.Watch.{Watch}
 use Rattle.journal_explain.specs.Naming.{is_all, names_in}
+use Rattle.journal_explain.specs.Objects.{changes_in, slot_asked}
 use Rattle.journal_explain.specs.Outcomes.{calls_in}
 use Rattle.journal_explain.specs.Stories.{IsStory, wait_of}
 
@@ -33,10 +35,17 @@ pub record HasSeen (life : Life) (t : Trail) : Type 0 where
   pub wait : t.wait ≡ wait_of life.config life.run life.history t.name.arrival
   pub arrived : t.name.arrival < arrivals life.history
 
+-- so does that of the object that is asked for
+pub record HasTraced (which : Selection) (life : Life) (o : ObjectTrail) : Type 0 where
+  pub opens : o.opens ≡ slot_asked which life.config life.run []
+  pub slot : o.slot ≡ slot_asked which life.config life.run life.history
+  pub changes : o.changes.items ≡ changes_in which life.config life.run life.history
+
 -- so do the trails of all calls that are asked for, and what came of all
 pub record HasWatched (life : Life) (w : Watch) : Type 0 where
   pub names : map (λ t. t.name) w.trails.items ≡ names_in w.asked life.history
   pub each : All (HasSeen life) w.trails.items
+  pub object : HasTraced w.asked life w.object
   pub came : w.came.items ≡ came_in w.asked life.config life.run life.history
 
 -- as long as each entry was legal
@@ -86,11 +95,17 @@ pub record IsTold (c : Config) (run : ℕ) (h : List Entry) (t : Trail) : Type 0
   pub call : call_of h t.name.arrival ≡ Some t.call
   pub steps : IsStory c run h t.name.arrival t.steps.items
 
--- of each call that is asked for by itself, each once in the order of their arriving, what happened to it; and what came of
--- all calls, where that is asked
+-- what the active object map had for the id of an object before the first entry, and what its activations came to with each
+pub record TellsObject (which : Selection) (c : Config) (run : ℕ) (h : List Entry) (o : ObjectTrail) : Type 0 where
+  pub opens : o.opens ≡ slot_asked which c run []
+  pub changes : o.changes.items ≡ changes_in which c run h
+
+-- of each call that is asked for by itself, each once in the order of their arriving, what happened to it; what stood of the
+-- object that is asked for; and what came of all calls, where that is asked
 pub record TellsCalls (c : Config) (run : ℕ) (h : List Entry) (w : Watch) : Type 0 where
   pub names : map (λ t. t.name) w.trails.items ≡ names_in w.asked h
   pub told : All (IsTold c run h) w.trails.items
+  pub object : TellsObject w.asked c run h w.object
   pub came : w.came.items ≡ came_in w.asked c run h
 
 -- all entries are legal, and this is told; or this entry is the first that isn't

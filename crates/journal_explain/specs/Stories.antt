@@ -38,7 +38,7 @@ at_work past w r told = if is_at r (arrival_in (stage past w)) then Some told el
 -- what an entry is to the call, after the entries before it
 abbrev pub event_of : Config → ℕ → List Entry → Entry → ℕ → Option Event
 event_of c run past (Arrive conn size call) r = if arrivals past == r then Some event.Arrived else None
-event_of c run past (Admit w a verdict) r = if a == r then Some (event.Admitted w (row_for c run past r w)) else None
+event_of c run past (Admit w a verdict) r = if a == r then Some (event.Admitted w (row_for c run past r w) verdict) else None
 event_of c run past (Tried w answer) r = at_work past w r (event.Tried answer)
 event_of c run past (Incarnated w answer) r = at_work past w r (event.Incarnated (brings answer))
 event_of c run past (Run w) r = at_work past w r event.Ran

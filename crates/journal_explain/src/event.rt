@@ -1,21 +1,28 @@
 //! What an entry of a journal is to a call.
 use crate::row::Row;
 use crate::wait::Wait;
-use poa_base::Attempt;
+use poa_base::{Attempt, Verdict};
 
 /// What happened to a call with an entry of the journal.
-#[derive(Clone, Copy, Drop)]
+#[derive(Drop)]
 pub enum Event {
     /// It arrived.
     Arrived,
     /// From this entry on it waits for that.
     Waits(Wait),
-    /// A worker admitted it: a request or a locate by this row of the table of verdicts, and a command by none.
-    Admitted { worker: u32, row: Option<Row> },
+    /// A worker admitted it, with this verdict: a request or a locate by this row of the table of verdicts, and a command by
+    /// none.
+    Admitted {
+        worker: u32,
+        row: Option<Row>,
+        verdict: Verdict,
+    },
     /// The adapter activator answered.
     Tried(Attempt),
     /// The servant activator answered: it brought a servant, or none.
-    Incarnated { brought: bool },
+    Incarnated {
+        brought: bool,
+    },
     /// Its servant ran.
     Ran,
     /// The request ended.

@@ -5,6 +5,7 @@ ghost use Rattle.poa_history.specs.Life.{begun};
 ghost use Rattle.journal_audit.specs.Auditing.{HasTaken};
 ghost use Rattle.journal_explain.specs.Explaining.{Hears, Sees};
 
+use crate::doing::Doing;
 use crate::selection::Selection;
 use crate::watch::Watch;
 use journal_audit::Auditor;
@@ -22,6 +23,7 @@ pub struct Explainer {
 impl Explainer {
     /// One who has heard no entry yet, of a run of this number and configuration, which keeps its rules, with what was stored
     /// before it. The run takes so many calls.
+    #[tactic(auto, using(crate::proofs::AtFirst::sees_first))]
     pub fn new(
         alloc: Global,
         config: Config,
@@ -38,10 +40,11 @@ impl Explainer {
         ensures asked { IfOk result (λ explainer. explainer.watch.asked ≡ asked) }
     {
         let auditor = Auditor::new(alloc, config, run, opening, limit)?;
+        let watch = Watch::new(alloc, &auditor.run, asked);
         Ok(Explainer {
             alloc,
             auditor,
-            watch: Watch::new(alloc, asked),
+            watch,
         })
     }
 
@@ -51,12 +54,13 @@ impl Explainer {
         ensures { OnOk result (Hears entry self.old self.new) }
     {
         let place = self.auditor.run.entries().len() as u64;
+        let doing = Doing::of(&entry);
         self.watch
             .note(self.alloc, &self.auditor.run, &entry, place)?;
         self.auditor.take(entry)?;
         if self.auditor.refusal.is_some() {
             return Ok(());
         }
-        self.watch.look(self.alloc, &self.auditor.run, place)
+        self.watch.look(self.alloc, &self.auditor.run, place, doing)
     }
 }

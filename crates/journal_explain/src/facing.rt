@@ -1,15 +1,19 @@
 //! What stands about a call in a run: the facts that the table of verdicts asks, and what the call waits for.
-ghost use Rattle.std.specs.Prelude.{◌≡◌, if◌then◌else◌, IfOk, Some, None};
-ghost use Rattle.history_standing.specs.Arrivals.{call_of, is_message as is_message_of};
+ghost use Rattle.std.specs.Prelude.{◌≡◌, if◌then◌else◌, IfOk, Some, None, option_copied};
+ghost use Rattle.history_standing.specs.Arrivals as called;
+ghost use Rattle.history_standing.specs.Arrivals.{is_message as is_message_of};
 ghost use Rattle.history_standing.specs.Situations as situations;
+ghost use Rattle.journal_explain.specs.Objects as objects;
 ghost use Rattle.journal_explain.specs.Stories as stories;
 
+use crate::doing::Doing;
 use crate::wait::Wait;
 use core_arrivals::calls::call;
 use core_arrivals::queue::{is_crowded, waits};
 use core_run::Run;
+use core_standing::asked_commands::command_in;
 use core_turns::{Look, facts_of, look_at};
-use poa_base::WantMemory;
+use poa_base::{Call, Command, TryClone, WantMemory};
 use poa_choose::Facts;
 use poa_history::calls::is_message;
 use std::alloc::Global;
@@ -17,7 +21,7 @@ use std::alloc::Global;
 /// The facts that stand about a request or a locate; none of a line, and of what hasn't arrived.
 pub(crate) fn facts(alloc: Global, run: &Run, arrival: u64) -> Result<Option<Facts>, WantMemory>
     ensures { IfOk result (λ facts. facts
-        ≡ (if is_message_of (call_of run.now.history arrival) then Some
+        ≡ (if is_message_of (called.call_of run.now.history arrival) then Some
         (situations.facts_of run.now.config run.now.run run.now.history arrival) else None)) }
 {
     run.keeps_laws();
@@ -77,5 +81,26 @@ fn wait_by(look: &Look) -> Wait
     match look {
         Look::Go(_) => Wait::Worker,
         Look::Held(hold) => Wait::Held(*hold),
+    }
+}
+
+/// The call of an arrival.
+fn call_of(run: &Run, arrival: u64) -> Option<&Call>
+    ensures { option_copied result ≡ called.call_of run.now.history arrival }
+{
+    let found = call(run.entries(), &run.tables().calls, arrival);
+    found
+}
+
+/// The administrator's command that an entry admits, which does this.
+pub(crate) fn command_admitted(run: &Run, doing: Doing) -> Result<Option<Command>, WantMemory>
+    ensures { IfOk result (λ command. command ≡ objects.command_by run.now.history doing) }
+{
+    let Doing::Admits(arrival) = doing else {
+        return Ok(None);
+    };
+    match command_in(call_of(run, arrival)) {
+        Some(command) => Ok(Some(command.try_clone()?)),
+        None => Ok(None),
     }
 }

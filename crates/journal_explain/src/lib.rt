@@ -5,15 +5,20 @@
 
 mod call_name;
 mod came;
+mod change;
 mod deciding;
+mod doing;
 mod event;
 mod explainer;
 mod explanation;
 mod facing;
 mod lines;
+mod moment;
+mod object_trail;
 mod outcome;
 mod row;
 mod selection;
+mod slots;
 mod step;
 mod telling;
 mod text;
@@ -24,10 +29,14 @@ mod watch;
 
 pub use call_name::CallName;
 pub use came::Came;
+pub use change::Change;
 pub use deciding::row_of;
+pub use doing::Doing;
 pub use event::Event;
 pub use explainer::Explainer;
 pub use explanation::Explanation;
+pub use moment::Moment;
+pub use object_trail::ObjectTrail;
 pub use outcome::Outcome;
 pub use row::Row;
 pub use selection::Selection;

@@ -2,7 +2,7 @@
 use crate::event::Event;
 
 /// What happened to a call with the entry at this place of the journal, from 0 on.
-#[derive(Clone, Copy, Drop)]
+#[derive(Drop)]
 pub struct Step {
     pub entry: u64,
     pub event: Event,

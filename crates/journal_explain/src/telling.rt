@@ -8,7 +8,7 @@ use crate::event::Event;
 use crate::facing::facts;
 use crate::row::Row;
 use core_run::Run;
-use poa_base::{Entry, WantMemory};
+use poa_base::{Entry, TryClone, WantMemory};
 use poa_history::workers::{arrival_in, brings, is_at};
 use std::alloc::Global;
 
@@ -30,11 +30,16 @@ pub(crate) fn event_of(
         Entry::Admit {
             worker,
             arrival: admitted,
-            ..
+            verdict,
         } if *admitted == arrival => {
             let row = row_for(alloc, run, *worker, arrival)?;
+            let verdict = verdict.try_clone()?;
             let worker = *worker;
-            Ok(Some(Event::Admitted { worker, row }))
+            Ok(Some(Event::Admitted {
+                worker,
+                row,
+                verdict,
+            }))
         }
         Entry::Tried { worker, answer } => {
             Ok(at_work(run, *worker, arrival, Event::Tried(*answer)))

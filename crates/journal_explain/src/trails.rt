@@ -12,19 +12,20 @@ use core_run::Run;
 use poa_base::{Entry, TryClone, WantMemory};
 use std::alloc::Global;
 
-/// Begins the trail of the call that arrives with an entry, as the one of this number, where it is asked for.
+/// Begins the trail of the call that arrives with the entry at this place, as the one of this number, where it is asked for.
 pub(crate) fn begin(
     alloc: Global,
-    asked: Selection,
+    asked: &Selection,
     arrivals: u64,
+    place: u64,
     entry: &Entry,
     trails: &mut Vec<Trail>,
 ) -> Result<(), WantMemory>
-    ensures { OnOk result (Begins asked arrivals entry.now trails.old.items trails.new.items) }
+    ensures { OnOk result (Begins asked.now arrivals place entry.now trails.old.items trails.new.items) }
 {
     if let Entry::Arrive { conn, call, .. } = entry {
         let name = CallName::of(arrivals, *conn, call);
-        if asked.asks(name) {
+        if asked.asks(name, place) {
             let call = call.try_clone()?;
             trails.push(Trail::new(alloc, name, call))?;
         }

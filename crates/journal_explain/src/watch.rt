@@ -1,8 +1,11 @@
 //! What is watched of calls.
 ghost use Rattle.std.specs.Prelude.{◌≡◌, [], OnOk};
+ghost use Rattle.journal_explain.specs.Explaining.{HasWatched};
 ghost use Rattle.journal_explain.specs.Watching.{HasLooked, HasNoted};
 
 use crate::came::{Came, note_came};
+use crate::doing::Doing;
+use crate::object_trail::ObjectTrail;
 use crate::selection::Selection;
 use crate::trail::Trail;
 use crate::trails::{begin, look_at_each, note_each};
@@ -10,26 +13,32 @@ use core_run::Run;
 use poa_base::{Entry, WantMemory};
 use std::alloc::Global;
 
-/// What is watched of calls: what happens to those that are asked for by themselves, and what came of all, where that is asked.
+/// What is watched of calls: what happens to those that are asked for by themselves, what stands of an object, and what came of
+/// all, where that is asked.
 #[derive(Drop)]
 pub struct Watch {
     pub asked: Selection,
     /// The calls that are asked for by themselves, in the order of their arriving.
     pub trails: Vec<Trail>,
+    /// The object that is asked for.
+    pub object: ObjectTrail,
     /// All calls, in the order of their arriving, where that is asked.
     pub came: Vec<Came>,
 }
 
 impl Watch {
-    /// A watch that has seen no entry yet.
-    pub(crate) fn new(alloc: Global, asked: Selection) -> Self
+    /// A watch of a run of which no entry has been seen.
+    #[tactic(auto, using(crate::proofs::AtFirst::watched_first))]
+    pub(crate) fn new(alloc: Global, run: &Run, asked: Selection) -> Self
+        requires { run.now.history ≡ [] }
         ensures asked { result.asked ≡ asked }
-        ensures trails { result.trails.items ≡ [] }
-        ensures came { result.came.items ≡ [] }
+        ensures watched { HasWatched run.now result }
     {
+        let object = ObjectTrail::new(alloc, run, &asked);
         Watch {
             asked,
             trails: Vec::new(alloc),
+            object,
             came: Vec::new(alloc),
         }
     }
@@ -44,7 +53,14 @@ impl Watch {
     ) -> Result<(), WantMemory>
         ensures { OnOk result (HasNoted run.now entry.now place self.old self.new) }
     {
-        begin(alloc, self.asked, run.arrivals(), entry, &mut self.trails)?;
+        begin(
+            alloc,
+            &self.asked,
+            run.arrivals(),
+            place,
+            entry,
+            &mut self.trails,
+        )?;
         note_each(alloc, run, entry, place, &mut self.trails)?;
         if self.asked.is_all() {
             note_came(alloc, run, entry, place, &mut self.came)?;
@@ -52,10 +68,17 @@ impl Watch {
         Ok(())
     }
 
-    /// Notes what the calls wait for in a run behind the entry at this place.
-    pub(crate) fn look(&mut self, alloc: Global, run: &Run, place: u64) -> Result<(), WantMemory>
-        ensures { OnOk result (HasLooked run.now place self.old self.new) }
+    /// Notes what the calls wait for in a run behind the entry at this place, which does this, and what stands of the object.
+    pub(crate) fn look(
+        &mut self,
+        alloc: Global,
+        run: &Run,
+        place: u64,
+        doing: Doing,
+    ) -> Result<(), WantMemory>
+        ensures { OnOk result (HasLooked run.now place doing self.old self.new) }
     {
-        look_at_each(alloc, run, place, &mut self.trails)
+        look_at_each(alloc, run, place, &mut self.trails)?;
+        self.object.note(run, &self.asked, place, doing)
     }
 }

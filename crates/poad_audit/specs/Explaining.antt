@@ -1,5 +1,5 @@
 -- What `explain` writes, and its status.
-use Rattle.std.specs.Prelude.{◌≡◌, ℕ, ◌+◌, ◌^◌, ◌<◌, IfSome, if◌then◌else◌, List, [], ◌++◌, Option, Some, None, Ok as OkResult, Err, take}
+use Rattle.std.specs.Prelude.{◌≡◌, ℕ, ◌+◌, ◌^◌, ◌<◌, IfSome, List, [], ◌++◌, Option, Some, None, Ok as OkResult, Err, take}
 use Rattle.std.specs.Option.{IsSomeAnd}
 use Rattle.outside.specs.Keeping.{Contents}
 use Rattle.outside.specs.Told.{IfTold}
@@ -7,22 +7,30 @@ use Rattle.poa_base.specs.declared.Config.{Config}
 use Rattle.poa_journal.specs.Whole.{contents_of}
 use Rattle.journal_audit.specs.declared.Refusal.{Refusal}
 use Rattle.journal_explain.specs.declared.Selection.{Selection}
+use Rattle.journal_explain.specs.declared.Selection.TheVariants as asked
 use Rattle.journal_explain.specs.declared.Explanation.{Explanation}
 use Rattle.journal_explain.specs.declared.Watch.{Watch}
 use Rattle.journal_explain.specs.Explaining.{Explains}
-use Rattle.journal_explain.specs.Naming.{is_all}
 use Rattle.poad_audit.specs.Auditing.{NotTaken, journal_limit}
 use Rattle.poad_audit.specs.Printing.{due_line}
 use Rattle.poad_files.specs.Showing.{GainsNothing}
 use Rattle.poad_files.specs.Taking.{IsHeld, TakesConfig}
 use Rattle.poad_files.specs.declared.status.Status.{Status}
 use Rattle.poad_files.specs.declared.status.Status.TheVariants.{Ok, Illegal, ConfigRefused, JournalRefused, WriteFault, FileFault, WantMemory, NoFile, FileTooLong}
+use Rattle.poad_audit.specs.Objects.{object_text}
+use Rattle.poad_audit.specs.Picture.{picture_text}
 use Rattle.poad_audit.specs.Story.{calls_text}
 use Rattle.poad_audit.specs.Table.{table_text}
 
--- what is told of the calls that are asked for, or of all
+-- what is told of the calls that are asked for, of an object, or of all calls
+abbrev pub text_asked : Selection → ℕ → Watch → List ℕ
+text_asked asked.All line w = table_text line w.came.items
+text_asked (asked.Object path oid) line w = object_text line path oid w.object
+text_asked (asked.Picture from to) line w = picture_text w.trails.items from to
+text_asked which line w = calls_text line w.trails.items
+
 abbrev pub watch_text : ℕ → Watch → List ℕ
-watch_text line w = if is_all w.asked then table_text line w.came.items else calls_text line w.trails.items
+watch_text line w = text_asked w.asked line w
 
 -- where all entries are legal, else nothing
 abbrev pub told_by : ℕ → Option Refusal → Watch → List ℕ

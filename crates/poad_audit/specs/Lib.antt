@@ -2,6 +2,13 @@ pub mod Printing
 pub mod Auditing
 pub mod Linking
 pub mod Calls
+pub mod Verdicts
 pub mod Story
 pub mod Table
+pub mod Objects
 pub mod Explaining
+pub mod PicturePhases
+pub mod PictureStyle
+pub mod PictureBars
+pub mod PictureLanes
+pub mod Picture

@@ -2,6 +2,7 @@
 use Rattle.std.specs.Prelude.{ℕ, List, [], ◌++◌, ◌∷◌, codes, decimal, Bool, true, false, Option, Some, None}
 use Rattle.poa_base.specs.declared.Attempt.{Attempt}
 use Rattle.poa_base.specs.declared.Attempt.TheVariants as attempt
+use Rattle.poa_base.specs.declared.Verdict.{Verdict}
 use Rattle.held_queue.specs.declared.Hold.{Hold}
 use Rattle.held_queue.specs.declared.Hold.TheVariants as hold
 use Rattle.journal_explain.specs.declared.CallName.{CallName}
@@ -14,6 +15,7 @@ use Rattle.journal_explain.specs.declared.Trail.{Trail}
 use Rattle.journal_explain.specs.declared.Wait.{Wait}
 use Rattle.journal_explain.specs.declared.Wait.TheVariants.{Worker, Held}
 use Rattle.poad_audit.specs.Calls.{call_text}
+use Rattle.poad_audit.specs.Verdicts.{verdict_text}
 
 abbrev pub row_text : Row → List ℕ
 row_text row.Crowded = codes "when it arrived, 65536 requests and locates stood unadmitted"
@@ -71,10 +73,15 @@ abbrev pub brought_text : Bool → List ℕ
 brought_text true = codes "the servant activator brought a servant"
 brought_text false = codes "the servant activator brought none"
 
+-- why it was admitted, and what was decided
+abbrev pub admitted_text : ℕ → Option Row → Verdict → List ℕ
+admitted_text w row verdict = codes "admitted by worker " ++ (decimal w ++ (codes ": " ++ (reason_text row
+    ++ (codes "; " ++ verdict_text verdict))))
+
 abbrev pub event_text : Event → List ℕ
 event_text event.Arrived = codes "arrived"
 event_text (event.Waits wait) = wait_text wait
-event_text (event.Admitted w row) = codes "admitted by worker " ++ (decimal w ++ (codes ": " ++ reason_text row))
+event_text (event.Admitted w row verdict) = admitted_text w row verdict
 event_text (event.Tried answer) = attempt_text answer
 event_text (event.Incarnated brought) = brought_text brought
 event_text event.Ran = codes "its servant ran"

@@ -7,6 +7,8 @@ ghost use Rattle.poad_files.specs.Taking.{HoldsStill};
 ghost use Rattle.poad_audit.specs.Explaining.{EndsExplain, ExplainsFiles, ExplainsJournal, HasLine, Tells, told_text, watch_text as watch_text_of};
 
 use crate::auditing::JOURNAL_LIMIT;
+use crate::object_text::object_text;
+use crate::picture::picture_text;
 use crate::printing::due_line;
 use crate::story::calls_text;
 use crate::table::table_text;
@@ -131,9 +133,14 @@ fn text_of(alloc: Global, found: &Explanation) -> Result<Bytes, WantMemory>
 fn watch_text(alloc: Global, line: u64, watch: &Watch) -> Result<Bytes, WantMemory>
     ensures { IfOk result (λ text. text ≡ watch_text_of line watch.now) }
 {
-    if watch.asked.is_all() {
-        table_text(alloc, line, watch.came.as_slice())
-    } else {
-        calls_text(alloc, line, watch.trails.as_slice())
+    match &watch.asked {
+        Selection::All => table_text(alloc, line, watch.came.as_slice()),
+        Selection::Object { path, oid } => { object_text(alloc, line, path, oid, &watch.object) }
+        Selection::Picture { from, to } => {
+            picture_text(alloc, watch.trails.as_slice(), *from, *to)
+        }
+        Selection::Arrival(_) | Selection::Call { .. } => {
+            calls_text(alloc, line, watch.trails.as_slice())
+        }
     }
 }

@@ -1,17 +1,20 @@
 //! `audit`: the journal in a file is audited as one of a run of the configuration in another, and what is found is printed; and
 //! so is whether the bytes of a link, in two files more, are what it says of that connection.
-//! `explain`: calls of such a journal, with what happened to each; or what came of all.
+//! `explain`: calls of such a journal, with what happened to each; or the activations of an object; or what came of all calls.
 #![tactic(auto)]
 
 mod auditing;
 mod call_text;
 mod explaining;
 mod linking;
+mod object_text;
+mod picture;
 mod printing;
 mod row_text;
 mod story;
 mod table;
 mod tally;
+mod verdict_text;
 
 pub use auditing::audit_files;
 pub use explaining::explain_files;

@@ -4,9 +4,10 @@ ghost use Rattle.poad_audit.specs.Story as printed;
 
 use crate::call_text::put_call;
 use crate::row_text::reason_text;
+use crate::verdict_text::{fixed, verdict_text};
 use held_queue::Hold;
 use journal_explain::{CallName, Event, Row, Step, Trail, Wait};
-use poa_base::{Attempt, Bytes, WantMemory};
+use poa_base::{Attempt, Bytes, Verdict, WantMemory};
 use std::alloc::Global;
 
 /// The stories of the calls that are asked for; the entries of their journal begin at this line.
@@ -76,7 +77,7 @@ fn step_line(alloc: Global, step: &Step) -> Result<Bytes, WantMemory>
     ensures { IfOk result (λ line. line ≡ printed.step_line step.now) }
 {
     let entry = step.entry;
-    let text = event_text(alloc, step.event)?;
+    let text = event_text(alloc, &step.event)?;
     let head = format!(in alloc; "entry {entry} ")?;
     let mut out = head.into_bytes();
     out.extend_from_slice(text.as_slice())?;
@@ -84,15 +85,19 @@ fn step_line(alloc: Global, step: &Step) -> Result<Bytes, WantMemory>
     Ok(Bytes::from_vec(out))
 }
 
-fn event_text(alloc: Global, event: Event) -> Result<Bytes, WantMemory>
-    ensures { IfOk result (λ text. text ≡ printed.event_text event) }
+fn event_text(alloc: Global, event: &Event) -> Result<Bytes, WantMemory>
+    ensures { IfOk result (λ text. text ≡ printed.event_text event.now) }
 {
     match event {
         Event::Arrived => fixed(alloc, "arrived"),
-        Event::Waits(wait) => wait_text(alloc, wait),
-        Event::Admitted { worker, row } => admitted_text(alloc, worker, row),
-        Event::Tried(answer) => attempt_text(alloc, answer),
-        Event::Incarnated { brought } => fixed(alloc, brought_text(brought)),
+        Event::Waits(wait) => wait_text(alloc, *wait),
+        Event::Admitted {
+            worker,
+            row,
+            verdict,
+        } => admitted_text(alloc, *worker, *row, verdict),
+        Event::Tried(answer) => attempt_text(alloc, *answer),
+        Event::Incarnated { brought } => fixed(alloc, brought_text(*brought)),
         Event::Ran => fixed(alloc, "its servant ran"),
         Event::Ended => fixed(alloc, "the request ended"),
         Event::Collected => fixed(alloc, "its reply was taken for writing"),
@@ -109,18 +114,20 @@ fn brought_text(brought: bool) -> &'static str
     }
 }
 
-fn fixed(alloc: Global, text: &str) -> Result<Bytes, WantMemory>
-    ensures { IfOk result (λ bytes. bytes ≡ text.now) }
+fn admitted_text(
+    alloc: Global,
+    worker: u32,
+    row: Option<Row>,
+    verdict: &Verdict,
+) -> Result<Bytes, WantMemory>
+    ensures { IfOk result (λ text. text ≡ printed.admitted_text worker row verdict.now) }
 {
-    Ok(Bytes::from_vec(Vec::from_slice(alloc, text.as_bytes())?))
-}
-
-fn admitted_text(alloc: Global, worker: u32, row: Option<Row>) -> Result<Bytes, WantMemory>
-    ensures { IfOk result (λ text. text ≡ printed.event_text (Event.Admitted worker row)) }
-{
+    let decided = verdict_text(alloc, verdict)?;
     let reason = reason_text(row);
-    let text = format!(in alloc; "admitted by worker {worker}: {reason}")?;
-    Ok(Bytes::from_vec(text.into_bytes()))
+    let head = format!(in alloc; "admitted by worker {worker}: {reason}; ")?;
+    let mut out = head.into_bytes();
+    out.extend_from_slice(decided.as_slice())?;
+    Ok(Bytes::from_vec(out))
 }
 
 fn wait_text(alloc: Global, wait: Wait) -> Result<Bytes, WantMemory>
@@ -132,7 +139,7 @@ fn wait_text(alloc: Global, wait: Wait) -> Result<Bytes, WantMemory>
     }
 }
 
-fn hold_text(alloc: Global, hold: Hold) -> Result<Bytes, WantMemory>
+pub(crate) fn hold_text(alloc: Global, hold: Hold) -> Result<Bytes, WantMemory>
     ensures { IfOk result (λ text. text ≡ printed.hold_text hold) }
 {
     let text = match hold {

@@ -29,6 +29,8 @@ RunsNames status left_old left_new held_old held_new =
 abbrev pub sought : CallsAsked → Selection
 sought (words.Arrival r) = calls.Arrival r
 sought (words.Call conn id) = calls.Call conn id
+sought (words.Object path oid) = calls.Object path oid
+sought (words.Picture from to) = calls.Picture from to
 sought words.All = calls.All
 
 -- by the contents of the files, what is left of the source and what the sink holds, before and after, and by the source and the files

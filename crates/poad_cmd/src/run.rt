@@ -48,10 +48,10 @@ use std::alloc::Global;
 ///   first that may not follow those before it, counted from 0. Where all are legal, and a connection is named, prints in a
 ///   line more `session yes` or `session no`: whether the two other files hold what that connection read and what was
 ///   written to it, by the journal, in a session that ended well.
-/// - `explain FILE JOURNAL [--arrival A | --call C ID] [--limit N]`: reads the journal in the second file as `audit` does, and
-///   prints what happened to the call that arrived as the one of number A, counted from 0, or to each request and locate of
-///   id ID on connection C: a line for each entry that says something of it. With neither it prints what came of all calls: a
-///   line for each outcome, with how many calls it has.
+/// - `explain FILE JOURNAL [--arrival A | --call C ID | --object PATH OID | --picture [--from E] [--to E]] [--limit N]`: reads
+///   the journal in the second file as `audit` does, and prints what happened to the call that arrived as the one of number A,
+///   counted from 0, or to each request and locate of id ID on connection C: a line for each entry that says something of it.
+///   With none of these it prints what came of all calls: a line for each outcome, with how many calls it has.
 /// - `names`: reads GIOP messages from the source, serves them by naming contexts, of which one alone is there at first, with
 ///   nothing bound, and writes the replies to the sink.
 ///

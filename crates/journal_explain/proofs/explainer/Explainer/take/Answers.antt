@@ -12,6 +12,6 @@ returns c =
       takes = c.in_ok-take.ensures;
       same = looks.asked ∙ noted.asked;
       sees = sees c.args.entry c.len-place.result past after c.args.self.now.watch c.note.new.self c.look.new.self
-          (c.len-place.ensures ∙ (ap length c.entries.ensures ∙ length-reverse past.run.history)) noted looks c.in_ok-take.ensures
+          (c.len-place.ensures ∙ (ap length c.entries.ensures ∙ length-reverse past.run.history)) noted c.of-doing.result c.of-doing.ensures looks c.in_ok-take.ensures
           (none_left after.refusal (sym c.is_some.ensures ∙ c.if-is_some.false));
     })
