@@ -2,3 +2,4 @@ pub mod Audited
 pub mod Explained
 pub mod Lines
 mod Keys
+mod Still
