@@ -3,3 +3,4 @@ pub mod Explained
 pub mod Lines
 mod Keys
 mod PictureFolds
+mod Still

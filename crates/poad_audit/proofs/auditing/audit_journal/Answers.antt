@@ -3,7 +3,11 @@ use Rattle.command_words.specs.Auditing.{seen_link}
 use Rattle.command_words.specs.declared.link_words.LinkWords.{LinkWords}
 use Rattle.poad_audit.specs.Auditing.{AuditsJournal}
 use Rattle.poad_audit.proofs.Audited.{unlinked}
+use Rattle.poad_audit.proofs.Still.{holds_same}
 use Rattle.poad_audit.proofs.auditing.audit_journal.Goals as goal
+
+pub returns-in_default-clause-contents : goal.returns-in_default-clause-contents
+returns-in_default-clause-contents g c = holds_same (g.F.Files.contents c.args.files.now)
 
 pub returns-in-Err-clause-audits : goal.returns-in-Err-clause-audits
 returns-in-Err-clause-audits g c =
