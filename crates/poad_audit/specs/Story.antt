@@ -74,9 +74,11 @@ brought_text true = codes "the servant activator brought a servant"
 brought_text false = codes "the servant activator brought none"
 
 -- why it was admitted, and what was decided
+abbrev pub admitted_head : ℕ → List ℕ
+admitted_head w = codes "admitted by worker " ++ (decimal w ++ codes ": ")
+
 abbrev pub admitted_text : ℕ → Option Row → Verdict → List ℕ
-admitted_text w row verdict = codes "admitted by worker " ++ (decimal w ++ (codes ": " ++ (reason_text row
-    ++ (codes "; " ++ verdict_text verdict))))
+admitted_text w row verdict = admitted_head w ++ (reason_text row ++ (codes "; " ++ verdict_text verdict))
 
 abbrev pub event_text : Event → List ℕ
 event_text event.Arrived = codes "arrived"

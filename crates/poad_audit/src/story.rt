@@ -122,12 +122,20 @@ fn admitted_text(
 ) -> Result<Bytes, WantMemory>
     ensures { IfOk result (λ text. text ≡ printed.admitted_text worker row verdict.now) }
 {
+    let reason = fixed(alloc, reason_text(row))?;
     let decided = verdict_text(alloc, verdict)?;
-    let reason = reason_text(row);
-    let head = format!(in alloc; "admitted by worker {worker}: {reason}; ")?;
-    let mut out = head.into_bytes();
+    let mut out = admitted_head(alloc, worker)?;
+    out.extend_from_slice(reason.as_slice())?;
+    out.extend_from_slice(b"; ")?;
     out.extend_from_slice(decided.as_slice())?;
     Ok(Bytes::from_vec(out))
+}
+
+fn admitted_head(alloc: Global, worker: u32) -> Result<Vec<u8>, WantMemory>
+    ensures { IfOk result (λ out. out.items ≡ printed.admitted_head worker) }
+{
+    let head = format!(in alloc; "admitted by worker {worker}: ")?;
+    Ok(head.into_bytes())
 }
 
 fn wait_text(alloc: Global, wait: Wait) -> Result<Bytes, WantMemory>
