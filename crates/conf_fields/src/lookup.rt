@@ -77,22 +77,21 @@ pub fn number_at(
     }
 }
 
-/// A number from `least` to `most`, or the default.
+/// A number up to `most`, or the default.
 pub fn number_or(
     alloc: Global,
     at: Place,
     table: &Table,
     key: &str,
-    least: u32,
     most: u32,
     default: u32,
 ) -> Result<u32, ConfFault>
-    requires { (least ≤ default) × (default ≤ most) }
-    ensures value { FieldGives result (with_default (the_number_in least most) default at key.now (table_view table.now)) }
-    ensures bound { IfOk result (λ k. (least ≤ k) × (k ≤ most)) }
+    requires { default ≤ most }
+    ensures value { FieldGives result (with_default (the_number_in 0 most) default at key.now (table_view table.now)) }
+    ensures bound { IfOk result (λ k. k ≤ most) }
 {
     match member_at(table, key) {
-        Some(value) => or_wrong(alloc, at, key, number_in(value, least, most)),
+        Some(value) => or_wrong(alloc, at, key, number_in(value, 0, most)),
         None => Ok(default),
     }
 }
@@ -118,8 +117,13 @@ pub fn port_or(
     ensures value { FieldGives result (with_default (the_number_in 1 65535) default at key.now (table_view table.now)) }
     ensures bound { IfOk result (λ k. 1 ≤ k) }
 {
-    let port = number_or(alloc, at, table, key, 1, 65535, u32::from(default))?;
-    Ok(port as u16)
+    match member_at(table, key) {
+        Some(value) => {
+            let port = or_wrong(alloc, at, key, number_in(value, 1, 65535))?;
+            Ok(port as u16)
+        }
+        None => Ok(default),
+    }
 }
 
 /// A 64-bit number, or the default.

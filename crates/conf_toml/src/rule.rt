@@ -154,7 +154,7 @@ fn raise_given(alloc: Global, at: Place, table: &Table) -> Result<Gives, ConfFau
         → IfOk result (GivesWithin (IsNumber servants) set) }
 {
     let name = word_at(alloc, at, table, "raise")?;
-    let minor = number_or(alloc, at, table, "minor", 0, u32::MAX, 0)?;
+    let minor = number_or(alloc, at, table, "minor", u32::MAX, 0)?;
     let done = completion_of(minor);
     Ok(Gives::Raise(SysExc { name, minor, done }))
 }

@@ -52,11 +52,11 @@ pub(crate) fn top_settings(alloc: Global, top: &Table) -> Result<Settings, ConfF
     ensures gate { IfOk result (λ s. s.gate_ms ≤ 10000) }
 {
     let at = Place::Top;
-    let run = number_or(alloc, at, top, "run", 0, u32::MAX, 1)?;
+    let run = number_or(alloc, at, top, "run", u32::MAX, 1)?;
     let host = host_or(alloc, at, top, "host", "127.0.0.1")?;
     let port = port_or(alloc, at, top, "port", 2809)?;
     let admin_port = port_or(alloc, at, top, "admin_port", 2810)?;
-    let gate_ms = number_or(alloc, at, top, "gate_ms", 0, 10000, 0)?;
+    let gate_ms = number_or(alloc, at, top, "gate_ms", 10000, 0)?;
     let root = word_or(alloc, at, top, "root", ManagerState::Holding)?;
     top_keys(alloc, top)?;
     Ok(Settings {

@@ -18,7 +18,7 @@ pub(crate) fn tag_at(
 ) -> Result<u16, ConfFault>
     ensures { FieldGives result (the_tag_at at policies.now (table_view table.now)) }
 {
-    let tag = number_or(alloc, at, table, "tag", 0, 65535, 0)?;
+    let tag = number_or(alloc, at, table, "tag", 65535, 0)?;
     only_if(alloc, at, "tag", tag == 0 || policies.lasts())?;
     Ok(tag as u16)
 }

@@ -11,12 +11,11 @@ pub untagged : (stamp : Option Stamp) (tag : ℕ) → tag ≡ 0 → IfSome stamp
 untagged None tag is = tt
 untagged (Some stamp) tag is = is
 
-pub ask_same : (f : Ask → List ℕ) (head other_head : Head) (key other_key operation other_operation : List ℕ) (argument other_argument : Option Datum)
-    → head ≡ other_head → key ≡ other_key → operation ≡ other_operation → argument ≡ other_argument
+pub ask_same : (f : Ask → List ℕ) (head other_head : Head) (key operation other_operation : List ℕ) (argument other_argument : Option Datum)
+    → head ≡ other_head → operation ≡ other_operation → argument ≡ other_argument
     → f (record { head = head; key = key; operation = operation; argument = argument }) ≡ f
-    (record { head = other_head; key = other_key; operation = other_operation; argument = other_argument })
-ask_same f head other_head key other_key operation other_operation argument other_argument p q r s =
+    (record { head = other_head; key = key; operation = other_operation; argument = other_argument })
+ask_same f head other_head key operation other_operation argument other_argument p q r =
     ap (λ (h : Head). f (record { head = h; key = key; operation = operation; argument = argument })) p
-    ∙ (ap (λ (k : List ℕ). f (record { head = other_head; key = k; operation = operation; argument = argument })) q
-    ∙ (ap (λ (o : List ℕ). f (record { head = other_head; key = other_key; operation = o; argument = argument })) r
-    ∙ ap (λ (a : Option Datum). f (record { head = other_head; key = other_key; operation = other_operation; argument = a })) s))
+    ∙ (ap (λ (o : List ℕ). f (record { head = other_head; key = key; operation = o; argument = argument })) q
+    ∙ ap (λ (a : Option Datum). f (record { head = other_head; key = key; operation = other_operation; argument = a })) r)

@@ -37,10 +37,10 @@ key_for life path oid = record { stamp = stamp_for life path; path = path; oid =
 abbrev pub head_for : ℕ → Head
 head_for id = record { id = id; minor = 2; little = true; flags = 3; locate = false }
 
-abbrev pub ask_for : Life → ℕ → List (List ℕ) → List ℕ → List ℕ → Option Datum → Ask
-ask_for life id path oid operation argument =
-    record { head = head_for id; key = key_spelling (key_for life path oid); operation = operation; argument = argument }
+-- to the object of a key
+abbrev pub ask_for : ℕ → List ℕ → List ℕ → Option Datum → Ask
+ask_for id key operation argument = record { head = head_for id; key = key; operation = operation; argument = argument }
 
 -- the bytes of the request
 abbrev pub asked : Life → ℕ → List (List ℕ) → List ℕ → List ℕ → Option Datum → List ℕ
-asked life id path oid operation argument = request_bytes (ask_for life id path oid operation argument)
+asked life id path oid operation argument = request_bytes (ask_for id (key_spelling (key_for life path oid)) operation argument)

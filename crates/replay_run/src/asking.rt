@@ -1,7 +1,8 @@
 //! The requests that a script asks.
 ghost use Rattle.std.specs.Prelude.{◌≡◌, IfOk};
+ghost use Rattle.giop_msg.specs.Ask.{request_bytes};
 ghost use Rattle.object_key.specs.Spelling.{key_spelling};
-ghost use Rattle.replay_run.specs.Asking.{asked, head_for, key_for, is_transient as is_transient_at, number_of as number_at, stamp_for};
+ghost use Rattle.replay_run.specs.Asking.{ask_for, head_for, key_for, is_transient as is_transient_at, number_of as number_at, stamp_for};
 
 use giop_msg::write_request;
 use history_standing::templates::{has_template, policies_at};
@@ -13,22 +14,20 @@ use std::alloc::Global;
 /// The number of no adapter.
 const NO_ADAPTER: u32 = 4_294_967_295;
 
-/// The bytes of the request that a line `ask` writes.
-pub fn request(
+/// The bytes of the request that a line `ask` writes to the object of this key.
+pub(crate) fn request(
     alloc: Global,
-    core: &Core,
     id: u32,
-    path: &Path,
-    oid: &Oid,
+    key: Bytes,
     operation: &Name,
     argument: &Option<Datum>,
 ) -> Result<Bytes, WantMemory>
     ensures { IfOk result
-        (λ bytes. bytes ≡ asked core.now id path.now oid.now operation.now argument.now) }
+        (λ bytes. bytes ≡ request_bytes (ask_for id key operation.now argument.now)) }
 {
     let ask = Ask {
         head: head(id),
-        key: key_bytes(alloc, core, path, oid)?,
+        key,
         operation: operation_of(alloc, operation)?,
         argument: copied(argument)?,
     };
@@ -55,8 +54,13 @@ fn copied(argument: &Option<Datum>) -> Result<Option<Datum>, WantMemory>
     }
 }
 
-// The spelling of an object's key.
-fn key_bytes(alloc: Global, core: &Core, path: &Path, oid: &Oid) -> Result<Bytes, WantMemory>
+/// The spelling of an object's key.
+pub(crate) fn key_bytes(
+    alloc: Global,
+    core: &Core,
+    path: &Path,
+    oid: &Oid,
+) -> Result<Bytes, WantMemory>
     ensures { IfOk result (λ bytes. bytes ≡ key_spelling (key_for core.now path.now oid.now)) }
 {
     let key = key(core, path, oid)?;

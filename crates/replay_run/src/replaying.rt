@@ -11,7 +11,7 @@ ghost use Rattle.poa_policy.specs.Kept.{KeepsRules};
 ghost use Rattle.replay_run.specs.Playing.{IsPlayed, Plays, PlaysAll};
 ghost use Rattle.replay_run.specs.Keeping.{Keeps, Shows, IsAtFirst};
 
-use crate::asking::request;
+use crate::asking::{key_bytes, request};
 use crate::channel::{Channel, channels_of};
 use crate::finishing::finish;
 use crate::line::Line;
@@ -133,7 +133,8 @@ pub(crate) fn play(
             operation,
             argument,
         } => {
-            let bytes = request(alloc, &player.core, *id, path, oid, operation, argument)?;
+            let key = key_bytes(alloc, &player.core, path, oid)?;
+            let bytes = request(alloc, *id, key, operation, argument)?;
             let line = Line::Bytes(bytes.as_slice());
             take_line(alloc, player, channels, *connection, line)
         }

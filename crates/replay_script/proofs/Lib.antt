@@ -1,4 +1,4 @@
 mod Trimming
 mod Rows
 mod Lines
-mod Floods
+mod Words

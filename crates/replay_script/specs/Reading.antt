@@ -14,6 +14,7 @@ use Rattle.text_words.specs.Name.{name_of}
 use Rattle.text_words.specs.Number.{number_of, signed_of}
 use Rattle.text_words.specs.Parts.{alone, last_name, last_number}
 use Rattle.text_words.specs.Path.{path_of}
+use Rattle.replay_script.specs.declared.invocation.Invocation.{Invocation}
 use Rattle.replay_script.specs.declared.fixed.Verb.{Verb}
 use Rattle.replay_script.specs.declared.fixed.Verb.TheVariants as verb
 use Rattle.replay_script.specs.declared.fixed.Form.{Form}
@@ -61,15 +62,22 @@ argument_of (w ∷ []) = do
   Some (Some d)
 argument_of (w ∷ v ∷ ws) = None
 
-abbrev pub ask_of : List (List ℕ) → Option ScriptLine
-ask_of (c ∷ i ∷ p ∷ o ∷ f ∷ ws) = do
-  conn ← name_of c
-  id ← number_of (2 ^ 32) i
+-- an operation of an object, and its argument
+abbrev pub invocation_of : List (List ℕ) → Option Invocation
+invocation_of (p ∷ o ∷ f ∷ ws) = do
   path ← path_of p
   oid ← id_of o
   operation ← name_of f
   argument ← argument_of ws
-  Some (line.Ask conn id path oid operation argument)
+  Some (record { path = path; oid = oid; operation = operation; argument = argument })
+invocation_of ws = None
+
+abbrev pub ask_of : List (List ℕ) → Option ScriptLine
+ask_of (c ∷ i ∷ ws) = do
+  conn ← name_of c
+  id ← number_of (2 ^ 32) i
+  made ← invocation_of ws
+  Some (line.Ask conn id made.path made.oid made.operation made.argument)
 ask_of ws = None
 
 -- a flood stands for at most 100,000 requests
@@ -82,14 +90,11 @@ flood_count word = do
   flood_size n
 
 abbrev pub flood_of : List (List ℕ) → Option ScriptLine
-flood_of (c ∷ n ∷ p ∷ o ∷ f ∷ ws) = do
+flood_of (c ∷ n ∷ ws) = do
   conn ← name_of c
   count ← flood_count n
-  path ← path_of p
-  oid ← id_of o
-  operation ← name_of f
-  argument ← argument_of ws
-  Some (line.Flood conn count path oid operation argument)
+  made ← invocation_of ws
+  Some (line.Flood conn count made.path made.oid made.operation made.argument)
 flood_of ws = None
 
 abbrev pub feed_of : List (List ℕ) → Option ScriptLine

@@ -9,6 +9,7 @@ mod connections;
 mod edges;
 mod fault;
 mod fixed;
+mod invocation;
 mod line;
 mod role;
 mod script;

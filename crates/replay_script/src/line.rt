@@ -1,16 +1,15 @@
 //! One line.
-ghost use Rattle.std.specs.Prelude.{◌≡◌, ◌∷◌, map};
+ghost use Rattle.std.specs.Prelude.{◌≡◌, map};
 ghost use Rattle.text_words.specs.WordGives.{WordGives};
 ghost use Rattle.replay_script.specs.Reading.{admin_of, ask_of, behind_verb, command_of, feed_of, flood_count as flood_count_of, flood_of, line_of, verb_of, worker_of, written_of};
 
-use crate::argument::argument;
 use crate::edges::{behind_word, is_skipped, trimmed};
 use crate::fixed::Verb;
+use crate::invocation::{Invocation, read_invocation};
 use poa_base::{Bytes, ScriptLine};
 use std::alloc::Global;
 use text_words::{
-    WordFault, alone, any_hex, any_identity, find_word, last_name, last_number, loose_words, name,
-    number32, path,
+    WordFault, alone, any_hex, find_word, last_name, last_number, loose_words, name, number32,
 };
 
 /// The most bytes that an administrator's line has.
@@ -95,31 +94,17 @@ fn behind(alloc: Global, verb: Verb, text: &[u8], words: &[&[u8]]) -> Result<Scr
 fn ask(alloc: Global, words: &[&[u8]]) -> Result<ScriptLine, WordFault>
     ensures { WordGives result (ask_of (map (λ w. w.now) words.now)) }
 {
-    let [conn, id, adapter, oid, operation, rest @ ..] = words else {
+    let [conn, id, rest @ ..] = words else {
         return Err(WordFault::OutOfForm);
     };
-    request(alloc, conn, id, adapter, oid, operation, rest)
-}
-
-fn request(
-    alloc: Global,
-    conn: &[u8],
-    id: &[u8],
-    adapter: &[u8],
-    oid: &[u8],
-    operation: &[u8],
-    words: &[&[u8]],
-) -> Result<ScriptLine, WordFault>
-    ensures { WordGives result
-        (ask_of (conn.now ∷ id.now ∷ adapter.now ∷ oid.now ∷ operation.now
-        ∷ map (λ w. w.now) words.now)) }
-{
     let conn = name(alloc, conn)?;
     let id = number32(id)?;
-    let path = path(alloc, adapter)?;
-    let oid = any_identity(alloc, oid)?;
-    let operation = name(alloc, operation)?;
-    let argument = argument(alloc, words)?;
+    let Invocation {
+        path,
+        oid,
+        operation,
+        argument,
+    } = read_invocation(alloc, rest)?;
     Ok(ScriptLine::Ask {
         conn,
         id,
@@ -133,31 +118,17 @@ fn request(
 fn flood(alloc: Global, words: &[&[u8]]) -> Result<ScriptLine, WordFault>
     ensures { WordGives result (flood_of (map (λ w. w.now) words.now)) }
 {
-    let [conn, count, adapter, oid, operation, rest @ ..] = words else {
+    let [conn, count, rest @ ..] = words else {
         return Err(WordFault::OutOfForm);
     };
-    requests(alloc, conn, count, adapter, oid, operation, rest)
-}
-
-fn requests(
-    alloc: Global,
-    conn: &[u8],
-    count: &[u8],
-    adapter: &[u8],
-    oid: &[u8],
-    operation: &[u8],
-    words: &[&[u8]],
-) -> Result<ScriptLine, WordFault>
-    ensures { WordGives result
-        (flood_of (conn.now ∷ count.now ∷ adapter.now ∷ oid.now ∷ operation.now
-        ∷ map (λ w. w.now) words.now)) }
-{
     let conn = name(alloc, conn)?;
     let count = flood_count(count)?;
-    let path = path(alloc, adapter)?;
-    let oid = any_identity(alloc, oid)?;
-    let operation = name(alloc, operation)?;
-    let argument = argument(alloc, words)?;
+    let Invocation {
+        path,
+        oid,
+        operation,
+        argument,
+    } = read_invocation(alloc, rest)?;
     Ok(ScriptLine::Flood {
         conn,
         count,

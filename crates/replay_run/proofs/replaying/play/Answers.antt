@@ -1,4 +1,6 @@
-use Rattle.std.proofs.Common.{◌∙◌}
+use Rattle.std.proofs.Common.{ℕ, List, ap, ◌∙◌}
+use Rattle.giop_msg.specs.Ask.{request_bytes}
+use Rattle.replay_run.specs.Asking.{ask_for}
 use Rattle.replay_run.specs.Working.{Turns, Runs, ByWorker}
 use Rattle.replay_run.proofs.Same.{still_worker_turns, still_worker_runs}
 use Rattle.replay_run.proofs.Seats.{keeps_still}
@@ -9,7 +11,9 @@ pub returns-in_ok-bytes-in-Ask-clause-shows : goal.returns-in_ok-bytes-in-Ask-cl
 returns-in_ok-bytes-in-Ask-clause-shows c = on_ok c.take_line.result _ _
     (λ p. step_shows c.args.step.now _ c.args.player.now c.take_line.new.player c.args.channels.now.items c.take_line.new.channels.items c.in-Ask.is
     (ask_shows _ _ _ _ _ c.as_slice.result.now _ c.args.player.now c.take_line.new.player c.args.channels.now.items c.take_line.new.channels.items
-    (c.as_slice.ensures ∙ c.in_ok-bytes-in-Ask.ensures) p))
+    (c.as_slice.ensures
+    ∙ (c.in_ok-bytes-in-Ask.ensures
+    ∙ ap (λ (key : List ℕ). request_bytes (ask_for c.in-Ask.id key c.in-Ask.operation c.in-Ask.argument)) c.in_ok-key-in-Ask.ensures)) p))
     c.take_line.ensures.shows
 
 pub returns-in-Step-clause-shows : goal.returns-in-Step-clause-shows
