@@ -52,8 +52,8 @@ STEPS = ((20, 1), (100, 5), (200, 10), (1000, 50), (2000, 100), (10000, 500), (2
 def phase_of(words, verdict, asks, before):
     """The phase that begins with an event behind another one, and its words."""
     for name, pattern in HELD:
-        if re.fullmatch(pattern, words):
-            return name, words
+        if held := re.match(pattern, words):
+            return name, held[0]
     if words in ('arrived', 'waits for a worker') or words.startswith('the adapter activator made adapter'):
         phase = 'waiting'
     elif words.startswith('admitted') and verdict[0] in BY_VERDICT:
@@ -62,7 +62,7 @@ def phase_of(words, verdict, asks, before):
         phase = 'serving'
     elif words == 'its servant ran':
         phase = 'running'
-    elif words == 'its reply was taken for writing':
+    elif words.startswith('its reply was taken for writing'):
         phase = 'closing' if before == 'running' else 'over'
     elif not asks or (words == 'the request ended' and before == 'closing'):
         phase = 'over'

@@ -10,7 +10,7 @@ use Rattle.history_standing.specs.Standings.{Standing}
 use Rattle.history_standing.specs.Changes.{standing}
 use Rattle.history_standing.specs.Rules.{brought}
 use Rattle.history_standing.specs.Stages.{stage, is_abandoned}
-use Rattle.poa_history.specs.Turns.{attempt, going_on, activation_numbered, turn}
+use Rattle.poa_history.specs.Turns.{attempt, going_on, next_of, activation_numbered, turn}
 use Rattle.poa_history.specs.Legal.{IsTurn, MayFollow}
 use Rattle.poa_history.proofs.TurnIs.{mapped_by, goes_on, takes, admits, turned}
 use Rattle.core_arrivals.specs.Begun.{worker_of, only_ends}
@@ -84,3 +84,12 @@ module _ (c : Config) (run limit : ℕ) (past : List Entry) (w : ℕ) (e : Entry
         going_ends (Trying r) is only = absurd (let x : false ≡ true = only in cc)
         going_ends (Incarnating r n) is only = absurd (let x : false ≡ true = only in cc)
         going_ends (Serving r) is only = absurd (let x : false ≡ true = only in cc)
+
+-- the turn of a worker that serves a request
+pub run_next : (c : Config) (run : ℕ) (h : List Entry) (w r : ℕ) → Serving r ≡ stage h w → Some (Run w) ≡ turn c run h w
+unfolding turn
+run_next c run h w r is = ap (next_of c run h w) is
+
+pub done_next : (c : Config) (run : ℕ) (h : List Entry) (w r : ℕ) → Ran r ≡ stage h w → Some (Done w) ≡ turn c run h w
+unfolding turn
+done_next c run h w r is = ap (next_of c run h w) is

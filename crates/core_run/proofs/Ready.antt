@@ -1,7 +1,7 @@
 -- There is room for an entry of a worker.
 use Rattle.std.proofs.Common.{◌≡◌, ℕ, ◌+◌, ◌<◌, ◌≤◌, true, false, List, ◌∷◌, if◌then◌else◌, refl, sym, subst, ap, ◌∙◌, length, reverse, arith}
 use Rattle.poa_base.specs.declared.Entry.{Entry}
-use Rattle.poa_base.specs.declared.Entry.TheVariants.{Done, Etherealized}
+use Rattle.poa_base.specs.declared.Entry.TheVariants.{Entered, Arrive, Filled, Left, Collect, Admit, Tried, Incarnated, Run, Done, TakeOut, Etherealized, Abandon}
 use Rattle.poa_history.specs.Runs.{IsRun}
 use Rattle.core_run.specs.declared.inside.Inside.{Inside}
 use Rattle.core_outboxes.specs.declared.desk.Desk.{Desk}
@@ -13,7 +13,10 @@ use Rattle.core_run.specs.Known.{TablesAgree}
 use Rattle.core_run.specs.Agrees.{Agrees, history}
 use Rattle.core_run.specs.Noting.{HasRoomForEntry}
 use Rattle.journal_entries.specs.Rows.{HasRoomFor}
-use Rattle.core_run.specs.ToCome.{is_ending, stay}
+use Rattle.core_arrivals.specs.Placed.{arrives}
+use Rattle.poa_history.specs.Waiting.{may_queue}
+use Rattle.core_arrivals.specs.Tallies.{HasRoomFor as HasRoomForTally}
+use Rattle.core_run.specs.ToCome.{is_ending, needs_journal_alone, stay}
 use Rattle.core_run.specs.Kept.{IsKept, HasSpace, needed, to_come}
 use Rattle.core_run.proofs.Connected.{brief_room, some_room}
 use Rattle.core_run.proofs.Endings.{by_ending}
@@ -78,3 +81,30 @@ ready_entries e i space whole = record { row = below (length i.entries.items) (t
   where
     below : (l come room : ℕ) → l + come + 2 ≤ room → l < room
     below l come room fits = omega (arith, fits)
+
+-- and so has one that needs room in the journal alone
+alone : (e : Entry) (i : Inside) → arrives e ≡ false → may_queue e ≡ false → HasRoomForTally e i.tables.tally → HasSpace 2 i → 0 < i.entries.spare
+    → HasRoomForEntry e i
+alone e i apart unqueued tally space whole =
+    record {
+      entries = ready_entries e i space whole;
+      calls = λ is. absurd (let x : false ≡ true = sym apart ∙ is in cc);
+      queue = λ is. absurd (let x : false ≡ true = sym unqueued ∙ is in cc);
+      held = λ is. absurd (let x : false ≡ true = sym unqueued ∙ is in cc);
+      tally = tally;
+    }
+
+pub alone_room : (e : Entry) (i : Inside) → needs_journal_alone e ≡ true → HasSpace 2 i → 0 < i.entries.spare → HasRoomForEntry e i
+alone_room (Admit w r v) i is = alone (Admit w r v) i refl refl tt
+alone_room (Run w) i is = alone (Run w) i refl refl tt
+alone_room (TakeOut w n x) i is = alone (TakeOut w n x) i refl refl tt
+alone_room (Tried w a) i is = absurd (let e : false ≡ true = is in cc)
+alone_room (Incarnated w a) i is = absurd (let e : false ≡ true = is in cc)
+alone_room (Done w) i is = absurd (let e : false ≡ true = is in cc)
+alone_room (Etherealized w x y) i is = absurd (let e : false ≡ true = is in cc)
+alone_room (Entered conn) i is = absurd (let e : false ≡ true = is in cc)
+alone_room (Arrive conn size call) i is = absurd (let e : false ≡ true = is in cc)
+alone_room (Filled conn size) i is = absurd (let e : false ≡ true = is in cc)
+alone_room (Left conn) i is = absurd (let e : false ≡ true = is in cc)
+alone_room (Collect conn a) i is = absurd (let e : false ≡ true = is in cc)
+alone_room (Abandon w) i is = absurd (let e : false ≡ true = is in cc)

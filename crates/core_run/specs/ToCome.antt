@@ -1,7 +1,7 @@
 -- How many entries may still come that take no memory, by what the tables say.
 use Rattle.std.specs.Prelude.{ℕ, ◌+◌, Bool, true, false, not, if◌then◌else◌, is_some, slice_index_or}
 use Rattle.poa_base.specs.declared.Entry.{Entry}
-use Rattle.poa_base.specs.declared.Entry.TheVariants.{Entered, Arrive, Filled, Left, Collect, Done, Etherealized}
+use Rattle.poa_base.specs.declared.Entry.TheVariants.{Entered, Arrive, Filled, Left, Collect, Admit, Run, Done, TakeOut, Etherealized}
 use Rattle.history_standing.specs.declared.stage.Stage.TheVariants.{Free}
 use Rattle.history_standing.specs.Searches.{count_below}
 use Rattle.core_arrivals.specs.declared.workers.Workers.{Workers}
@@ -35,6 +35,13 @@ is_conn (Filled conn size) = true
 is_conn (Left conn) = true
 is_conn (Collect conn r) = true
 is_conn e = false
+
+-- no call and no connection comes with it, and no call comes back: it needs room in the journal alone
+abbrev pub needs_journal_alone : Entry → Bool
+needs_journal_alone (Admit w r verdict) = true
+needs_journal_alone (Run w) = true
+needs_journal_alone (TakeOut w activation etherealize) = true
+needs_journal_alone e = false
 
 -- it only ends what was begun: its room was made by the entry that began it
 abbrev pub is_ending : Entry → Bool

@@ -1,5 +1,5 @@
 //! Room for what comes.
-ghost use Rattle.std.specs.Prelude.{◌≡◌, ◌+◌, ◌≤◌, ◌∷◌, None, true, ◌⊎◌, IsOk, OnOk};
+ghost use Rattle.std.specs.Prelude.{◌≡◌, ◌+◌, ◌≤◌, ◌<◌, ◌∷◌, None, true, ◌⊎◌, IsOk, OnOk};
 ghost use Rattle.std.specs.Option.{IsSomeAnd};
 ghost use Rattle.poa_history.specs.Runs.{IsRun};
 ghost use Rattle.core_outboxes.specs.Desk.{HasRoomForOne};
@@ -17,6 +17,7 @@ const WORKERS: usize = 32;
 
 /// How many entries may still come that take no memory, and some more; none where that is too many to count.
 #[tactic(auto, using(crate::proofs::Endings::workers_few))]
+#[inline(always)]
 fn most(inside: &Inside) -> Option<usize>
     ensures { IsSomeAnd result (λ n. to_come inside.now + 2 ≤ n) ⊎ (result ≡ None) }
 {
@@ -42,6 +43,19 @@ pub fn make_room(inside: &mut Inside) -> Result<(), WantMemory>
     inside.entries.reserve(most)
 }
 
+/// Makes room for one entry more with which no call and no connection comes; all else is as it was.
+#[inline(always)]
+fn make_room_in_journal(inside: &mut Inside) -> Result<(), WantMemory>
+    requires { IsKept inside.old }
+    ensures space { OnOk result (HasSpace 2 inside.new) }
+    ensures whole { OnOk result (0 < inside.new.entries.spare) }
+    ensures kept { IsKept inside.new }
+    ensures life { life inside.new ≡ life inside.old }
+{
+    let most = most(inside).ok_or(WantMemory)?;
+    inside.entries.reserve(most)
+}
+
 /// Makes room for a call of a connection, and for its reply; all else is as it was.
 pub fn make_room_for_call(inside: &mut Inside, conn: u32) -> Result<(), WantMemory>
     requires { IsKept inside.old }
@@ -55,15 +69,28 @@ pub fn make_room_for_call(inside: &mut Inside, conn: u32) -> Result<(), WantMemo
 }
 
 /// Whether an entry only ends what was begun.
+#[inline(always)]
 fn is_ending(entry: &Entry) -> bool
     ensures { result ≡ coming.is_ending entry.now }
 {
     matches!(entry, Entry::Done { .. } | Entry::Etherealized { .. })
 }
 
+/// Whether an entry needs room in the journal alone.
+#[inline(always)]
+fn needs_journal_alone(entry: &Entry) -> bool
+    ensures { result ≡ coming.needs_journal_alone entry.now }
+{
+    matches!(
+        entry,
+        Entry::Admit { .. } | Entry::Run { .. } | Entry::TakeOut { .. }
+    )
+}
+
 /// Makes room for an entry of a worker; all else is as it was. One that only ends what was begun has its room since
 /// then, and takes no memory.
-#[tactic(auto, using(crate::proofs::Ready::ending_room, crate::proofs::Ready::ending_space, crate::proofs::Ready::ready_space, crate::proofs::Ready::ready_entries))]
+#[tactic(auto, using(crate::proofs::Ready::ending_room, crate::proofs::Ready::ending_space, crate::proofs::Ready::ready_space, crate::proofs::Ready::ready_entries, crate::proofs::Ready::alone_room))]
+#[inline(always)]
 pub fn make_room_for(inside: &mut Inside, entry: &Entry) -> Result<(), WantMemory>
     requires kept { IsKept inside.old }
     requires follows { IsRun inside.old.config inside.old.run inside.old.limit
@@ -76,6 +103,9 @@ pub fn make_room_for(inside: &mut Inside, entry: &Entry) -> Result<(), WantMemor
 {
     if is_ending(entry) {
         return Ok(());
+    }
+    if needs_journal_alone(entry) {
+        return make_room_in_journal(inside);
     }
     make_room(inside)
 }

@@ -7,11 +7,14 @@ ghost use Rattle.core_run.specs.Agrees.{history};
 ghost use Rattle.core_run.specs.Kept.{IsKept, life};
 
 use crate::inside::Inside;
+use core_arrivals::workers;
 use core_turns::Known;
+use history_standing::Stage;
 use poa_base::{Entry, WantMemory};
 
-/// The entry that a worker makes next. That it has only to end what it began can always be told.
-pub fn next(inside: &mut Inside, worker: u32) -> Result<Option<Entry>, WantMemory>
+/// The same, asked of all that is known.
+#[inline(never)]
+fn asked(inside: &mut Inside, worker: u32) -> Result<Option<Entry>, WantMemory>
     requires kept { IsKept inside.old }
     requires worker { worker < 16 }
     ensures next { IfOk result
@@ -35,4 +38,23 @@ pub fn next(inside: &mut Inside, worker: u32) -> Result<Option<Entry>, WantMemor
         worker,
         &mut inside.tables.held,
     )
+}
+
+/// The entry that a worker makes next. That it has only to end what it began can always be told. Of a request that is
+/// served it is told by that alone.
+#[tactic(auto, using(crate::proofs::NextTurn::run_next, crate::proofs::NextTurn::done_next))]
+pub fn next(inside: &mut Inside, worker: u32) -> Result<Option<Entry>, WantMemory>
+    requires kept { IsKept inside.old }
+    requires worker { worker < 16 }
+    ensures next { IfOk result
+        (λ entry. entry ≡ turn inside.new.config inside.new.run (history inside.new) worker) }
+    ensures ends { only_ends (begun.stage (history inside.new) worker) ≡ true → IsOk result }
+    ensures kept { IsKept inside.new }
+    ensures same { life inside.new ≡ life inside.old }
+{
+    match workers::stage(&inside.tables.workers, worker) {
+        Stage::Serving(_) => Ok(Some(Entry::Run { worker })),
+        Stage::Ran(_) => Ok(Some(Entry::Done { worker })),
+        _ => asked(inside, worker),
+    }
 }

@@ -127,7 +127,7 @@ fn slot_among(config: &Config, activations: &Activations, adapter: u32, oid: &[u
 }
 
 /// What the active object map has for an id.
-fn slot_of(config: &Config, standing: &Standing, adapter: u32, oid: &[u8]) -> MapFact
+pub fn slot_of(config: &Config, standing: &Standing, adapter: u32, oid: &[u8]) -> MapFact
     ensures { result ≡ situations.slot_of config.now (seen standing.now).activations adapter
         oid.now }
 {

@@ -14,7 +14,7 @@ mod template;
 mod turns;
 mod verdicts;
 
-pub use facts::facts_of;
+pub use facts::{facts_of, slot_of};
 pub use known::Known;
 pub use looks::{Look, look_at};
 pub use rules::brought;

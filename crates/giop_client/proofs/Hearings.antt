@@ -9,7 +9,8 @@ use Rattle.giop_frame.specs.Framer.{FramerGives, HasGiven, GoesOn, FramerAnswers
 use Rattle.giop_frame.proofs.Cutting.{given_fed, given_message, given_same, stream_waits, stream_fails_here}
 use Rattle.giop_client.specs.declared.hop.Hop.{Hop}
 use Rattle.giop_client.specs.declared.hop.Hop.TheVariants as hop
-use Rattle.giop_client.specs.declared.hearing.TheConstants.{MESSAGE_LIMIT, READ_LIMIT}
+use Rattle.poa_base.specs.declared.limits.TheConstants.{MESSAGE_LIMIT}
+use Rattle.giop_client.specs.declared.hearing.TheConstants.{READ_LIMIT}
 use Rattle.giop_client.specs.Reply.{MessageSays}
 use Rattle.giop_client.specs.Hop.{IsHop, said_so_far, StreamSays}
 use Rattle.giop_client.specs.Talking.{Hears}

@@ -2,7 +2,6 @@ pub mod Going
 pub mod Heads
 pub mod Replies
 pub mod Targets
-pub mod Written
 pub mod Hearings
 pub mod Listened
 pub mod Visits

@@ -10,7 +10,7 @@ use Rattle.giop_frame.specs.Framer.{HasGiven}
 use Rattle.giop_client.specs.declared.hop.Hop.{Hop}
 use Rattle.giop_client.specs.declared.hop.Hop.TheVariants as hop
 use Rattle.giop_client.specs.declared.call_end.CallEnd.TheVariants as end
-use Rattle.giop_client.specs.declared.hearing.TheConstants.{MESSAGE_LIMIT}
+use Rattle.poa_base.specs.declared.limits.TheConstants.{MESSAGE_LIMIT}
 use Rattle.giop_client.specs.declared.listening.TheConstants.{MOST_QUIETS}
 use Rattle.giop_client.specs.declared.step.Step.{Step}
 use Rattle.giop_client.specs.declared.step.Step.TheVariants.{On, End}

@@ -13,7 +13,7 @@ use Rattle.giop_msg.specs.Ask.{request_bytes}
 use Rattle.giop_client.specs.declared.followed.Followed.{Followed}
 use Rattle.giop_client.specs.declared.hop.Hop.{Hop}
 use Rattle.giop_client.specs.declared.hop.Hop.TheVariants as hop
-use Rattle.giop_client.specs.declared.hearing.TheConstants.{MESSAGE_LIMIT}
+use Rattle.poa_base.specs.declared.limits.TheConstants.{MESSAGE_LIMIT}
 use Rattle.giop_client.specs.declared.target.Target.{Target}
 use Rattle.giop_client.specs.Reply.{Answers, IsClosing, IsNoAnswer, MessageSays}
 use Rattle.giop_client.specs.Hop.{IsHop, StreamSays, said_so_far}

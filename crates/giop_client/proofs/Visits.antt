@@ -5,7 +5,7 @@ use Rattle.poa_base.specs.declared.Datum.{Datum}
 use Rattle.poa_base.specs.declared.Endpoint.{Endpoint}
 use Rattle.poa_base.specs.declared.Ior.{Ior}
 use Rattle.outside.specs.Told.{IfTold}
-use Rattle.outside.specs.Link.{Shown, Moves, IsDry}
+use Rattle.outside.specs.Link.{Shown, Moves, Writes, IsDry}
 use Rattle.outside.specs.Connecting.{Dialed, Hung, Calls, Opens, HangsUp}
 use Rattle.outside.proofs.Moving.{moves_both, told_both}
 use Rattle.giop_msg.specs.Ask.{request_bytes}
@@ -21,7 +21,7 @@ use Rattle.giop_client.specs.Hop.{IsHop}
 use Rattle.giop_client.specs.Request.{ask_of}
 use Rattle.giop_client.specs.Target.{IsTarget}
 use Rattle.giop_client.specs.Visit.{Visit, Makes, Begins, dialed, hung}
-use Rattle.giop_client.specs.Talking.{Writes, Listens, Comes, Talks, Uses, Visited, StopsUnasked, IsAsked, Asks}
+use Rattle.giop_client.specs.Talking.{Listens, Comes, Talks, Uses, Visited, StopsUnasked, IsAsked, Asks}
 
 -- the whole request was written, and then the answer was heard
 whole : (bytes front rest : List ℕ) → bytes ≡ front ++ rest → rest ≡ [] → front ≡ bytes

@@ -3,7 +3,8 @@ use Rattle.std.specs.Prelude.{◌≡◌, ℕ, nat_le, List, [], ◌∷◌, Optio
 use Rattle.giop_frame.specs.Stream.{Framed, End, left_over, bad_place, Stream}
 use Rattle.giop_client.specs.declared.hop.Hop.{Hop}
 use Rattle.giop_client.specs.declared.hop.Hop.TheVariants as hop
-use Rattle.giop_client.specs.declared.hearing.TheConstants.{MESSAGE_LIMIT, READ_LIMIT}
+use Rattle.poa_base.specs.declared.limits.TheConstants.{MESSAGE_LIMIT}
+use Rattle.giop_client.specs.declared.hearing.TheConstants.{READ_LIMIT}
 use Rattle.giop_client.specs.Reply.{MessageSays}
 
 -- what so many bytes say that hold no whole message: nothing yet, or, at the limit of what is read, no answer

@@ -4,13 +4,13 @@ use Rattle.poa_base.specs.declared.Datum.{Datum}
 use Rattle.poa_base.specs.declared.Endpoint.{Endpoint}
 use Rattle.poa_base.specs.declared.Ior.{Ior}
 use Rattle.outside.specs.Connecting.{Calls}
-use Rattle.outside.specs.Link.{Shown, Moves, IsDry}
+use Rattle.outside.specs.Link.{Shown, Moves, Writes, IsDry}
 use Rattle.giop_frame.specs.Framing.{Framing}
 use Rattle.giop_frame.specs.Framer.{HasGiven}
 use Rattle.giop_msg.specs.Ask.{request_bytes}
 use Rattle.giop_client.specs.declared.call_end.CallEnd.TheVariants as end
 use Rattle.giop_client.specs.declared.hop.Hop.{Hop}
-use Rattle.giop_client.specs.declared.hearing.TheConstants.{MESSAGE_LIMIT}
+use Rattle.poa_base.specs.declared.limits.TheConstants.{MESSAGE_LIMIT}
 use Rattle.giop_client.specs.declared.step.Step.{Step}
 use Rattle.giop_client.specs.declared.step.Step.TheVariants.{On, End}
 use Rattle.giop_client.specs.declared.target.Target.{Target}
@@ -20,14 +20,6 @@ use Rattle.giop_client.specs.Journey.{EndsUnasked, Leg}
 use Rattle.giop_client.specs.Request.{ask_of}
 use Rattle.giop_client.specs.Target.{IsTarget}
 use Rattle.giop_client.specs.Visit.{Visit, Makes, Begins}
-
--- the link took a front of the bytes, or all of them
-pub record Writes (bytes : List ℕ) (a b : Shown) (whole : Bool) : Type 0 where
-  pub done : List ℕ
-  pub rest : List ℕ
-  pub moved : Moves a b [] done
-  pub front : bytes ≡ done ++ rest
-  pub all : whole ≡ true → rest ≡ []
 
 -- the bytes say so; and where they say nothing yet, no message of theirs was given
 pub record Hears (id : ℕ) (text : List ℕ) (said : Option Hop) (framer : Framing) : Type 0 where

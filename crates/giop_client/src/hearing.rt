@@ -1,5 +1,6 @@
 //! What a link gives, up to its first message.
 ghost use Rattle.std.specs.Prelude.{◌≡◌, ◌+◌, ◌<◌, ◌≤◌, ◌^◌, ◌++◌, ℕ, List, [], length, IfOk, IfNone};
+ghost use Rattle.poa_base.specs.declared.limits.TheConstants.{MESSAGE_LIMIT};
 ghost use Rattle.giop_frame.specs.Framer.{HasGiven, reach};
 ghost use Rattle.giop_client.specs.Hop.{said_so_far};
 ghost use Rattle.giop_client.specs.Talking.{Hears};
@@ -9,9 +10,6 @@ use crate::hop_reading::read_hop;
 use giop_frame::{Framer, Next, a_framer_goes_on};
 use poa_base::WantMemory;
 use std::alloc::Global;
-
-/// No message is longer than so many bytes without its header.
-pub const MESSAGE_LIMIT: u32 = 1_048_576;
 
 /// So many bytes of a link are read at most.
 pub const READ_LIMIT: u64 = 1 << 25;

@@ -17,12 +17,11 @@ mod request;
 mod step;
 mod target;
 mod visiting;
-mod writing;
 
 pub use call_end::CallEnd;
 pub use followed::Followed;
 pub use following::{MOST_HOPS, follow};
-pub use hearing::{MESSAGE_LIMIT, READ_LIMIT};
+pub use hearing::READ_LIMIT;
 pub use hop::Hop;
 pub use laws::{links_are_a_front_of_the_path, one_hop};
 pub use listening::MOST_QUIETS;

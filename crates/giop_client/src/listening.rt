@@ -7,10 +7,11 @@ ghost use Rattle.giop_client.specs.Ending.{Suffers};
 ghost use Rattle.giop_client.specs.Talking.{Listens};
 
 use crate::call_end::CallEnd;
-use crate::hearing::{MESSAGE_LIMIT, READ_LIMIT, hear};
+use crate::hearing::{READ_LIMIT, hear};
 use crate::step::Step;
 use giop_frame::Framer;
 use outside::{Link, Took};
+use poa_base::limits::MESSAGE_LIMIT;
 use std::alloc::Global;
 
 /// So many reads of a link may find nothing. A read of a real link waits a while before it says so.

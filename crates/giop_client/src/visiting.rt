@@ -8,8 +8,7 @@ ghost use Rattle.giop_client.specs.Talking.{Talks, Visited};
 use crate::call_end::CallEnd;
 use crate::listening::listen;
 use crate::step::Step;
-use crate::writing::write_all;
-use outside::{Connector, Link, Opened};
+use outside::{Connector, Link, Opened, write_all};
 use poa_base::Endpoint;
 use std::alloc::Global;
 

@@ -19,6 +19,7 @@ pub struct Freed {
 
 impl Freed {
     /// Nothing.
+    #[inline(always)]
     pub fn nothing() -> Freed
         ensures { result ≡ nothing }
     {
@@ -31,6 +32,7 @@ impl Freed {
     }
 
     /// Whatever is held.
+    #[inline(always)]
     pub fn everything() -> Freed
         ensures { result ≡ everything }
     {

@@ -1,4 +1,4 @@
--- An entry is taken into a run where it may follow, and else refused. These words are for contracts inside of this crate.
+-- An entry is taken into a run where it may follow, and else refused; and the reply that is collected with one.
 use Rattle.std.specs.Prelude.{◌≡◌, ℕ, ⊤, Bool, true, false, Option, Some, None}
 use Rattle.poa_base.specs.declared.Entry.{Entry}
 use Rattle.poa_base.specs.declared.Entry.TheVariants.{Arrive, Collect}

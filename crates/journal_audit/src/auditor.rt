@@ -57,7 +57,7 @@ impl Auditor {
     }
 
     /// The same. Tells the reply that the entry gave, where it collects one and was taken.
-    pub(crate) fn follow(&mut self, entry: Entry) -> Result<Option<Filed>, WantMemory>
+    pub fn follow(&mut self, entry: Entry) -> Result<Option<Filed>, WantMemory>
         requires { self.old.limit ≡ self.old.run.limit }
         ensures takes { OnOk result (Takes entry self.old self.new) }
         ensures gives { IfOk result (GivesBack entry self.old.run self.new.refusal) }

@@ -1,3 +1,5 @@
+mod Rows
+mod Turned
 mod Standing
 mod Going
 mod Beginning
@@ -5,5 +7,6 @@ mod Watched
 mod AtFirst
 mod Decided
 mod Heard
+mod Handed
 mod Hearing
 mod Told

@@ -1,13 +1,13 @@
 -- What an explanation tells of a whole text.
-use Rattle.std.proofs.Common.{◌≡◌, ℕ, ◌+◌, ◌^◌, ◌<◌, ◌≤◌, List, ◌∷◌, length, reverse, Option, Some, None, Ok, Err, IfSome, sym, ◌∙◌, ap, subst, arith, length-append}
+use Rattle.std.proofs.Common.{◌≡◌, ℕ, ◌+◌, ◌^◌, ◌<◌, ◌≤◌, List, ◌∷◌, length, reverse, Option, Some, None, Ok, Err, IfSome, refl, sym, ◌∙◌, ap, subst, arith, length-append}
 use Rattle.std.proofs.lemmas.List.{length-reverse}
 use Rattle.std.proofs.lemmas.List.Elements.{All-weaker}
 use Rattle.poa_base.specs.declared.Config.{Config}
 use Rattle.poa_base.specs.declared.Entry.{Entry}
-use Rattle.poa_base.specs.Store.{states}
+use Rattle.poa_base.specs.Store.{states, stored as stored_in}
 use Rattle.poa_history.specs.declared.Givens.{Givens}
 use Rattle.poa_history.specs.Legal.{IsLegal}
-use Rattle.poa_history.specs.Life.{Life, begun, givens_of}
+use Rattle.poa_history.specs.Life.{Life, begun, givens_of, opened}
 use Rattle.text_words.specs.Cuts.{lines_of, words_of}
 use Rattle.poa_journal.specs.declared.Opening.{Opening}
 use Rattle.poa_journal.specs.declared.fault.JournalFault.{JournalFault}
@@ -24,20 +24,21 @@ use Rattle.journal_explain.specs.Explaining.{ExplainsFront, ExplainsText, HasSee
 
 -- what happened in a run is told of its journal
 module _ (g : Givens) (entries : List Entry) (life : Life) (given : givens_of life ≡ g) (w : Watch) where
-  told : HasWatched life w → TellsCalls life.config life.run life.history w
+  told : HasWatched life w → TellsCalls life.config life.run (opened life) life.history w
   told sees = record {
     names = sees.names;
     told =
-        All-weaker (HasSeen life) (IsTold life.config life.run life.history)
-        (λ t seen. record { call = seen.call; steps = seen.steps }) w.trails.items sees.each;
-    object = record { opens = sees.object.opens; changes = sees.object.changes };
+        All-weaker (HasSeen life) (IsTold life.config life.run (opened life) life.history)
+        (λ t seen. record { call = seen.call; adapter = seen.adapter; steps = seen.steps }) w.trails.items sees.each;
+    object = record { opens = sees.object.opens; stored = sees.object.stored; changes = sees.object.changes };
     came = sees.came;
   }
 
-  moved : TellsCalls life.config life.run life.history w → life.history ≡ reverse entries → TellsCalls g.config g.run (reverse entries) w
+  moved : TellsCalls life.config life.run (opened life) life.history w → life.history ≡ reverse entries
+      → TellsCalls g.config g.run (stored_in g.opening) (reverse entries) w
   moved tells history =
-      subst (λ (x : Givens). TellsCalls x.config x.run (reverse entries) w) given
-      (subst (λ (h : List Entry). TellsCalls life.config life.run h w) history tells)
+      subst (λ (x : Givens). TellsCalls x.config x.run (stored_in x.opening) (reverse entries) w) given
+      (subst (λ (h : List Entry). TellsCalls life.config life.run (opened life) h w) history tells)
 
   legal : life.history ≡ reverse entries → IsLegal life.config life.run life.limit life.history
       → IsLegal g.config g.run g.limit (reverse entries)
@@ -45,13 +46,14 @@ module _ (g : Givens) (entries : List Entry) (life : Life) (given : givens_of li
       subst (λ (x : Givens). IsLegal x.config x.run x.limit (reverse entries)) given
       (subst (λ (h : List Entry). IsLegal life.config life.run life.limit h) history is)
 
-  pub tells_where : (r : Option Refusal) → Finds entries life r → SeesWhereLegal r life w → TellsWhereLegal g.config g.run g.limit entries r w
+  pub tells_where : (r : Option Refusal) → Finds entries life r → SeesWhereLegal r life w
+      → TellsWhereLegal g.config g.run g.limit (stored_in g.opening) entries r w
   tells_where None found sees = (legal found.0 found.1, moved (told sees) found.0)
   tells_where (Some r) found sees = subst (λ (x : Givens). IsRefused x.config x.run x.limit entries r) given found
 
 -- the line of the entry that is told
 line_of : (g : Givens) (entries : List Entry) (line most : ℕ) (r : Option Refusal) (w : Watch)
-    → TellsWhereLegal g.config g.run g.limit entries r w → line + length entries ≤ most → most < 2 ^ 64
+    → TellsWhereLegal g.config g.run g.limit (stored_in g.opening) entries r w → line + length entries ≤ most → most < 2 ^ 64
     → IfSome r (λ (it : Refusal). line + it.entry < 2 ^ 64)
 line_of g entries line most None w told within room = tt
 line_of g entries line most (Some r) w told within room =
@@ -88,14 +90,16 @@ module _ (c : Config) (limit : ℕ) (which : Selection) (run : ℕ) (opening : O
   explained count heard named room x line_is refusal_is watch_is text is =
       let g : Givens = givens_of (begun c run limit opening.store) in
       let given : givens_of last.auditor.run ≡ g = heard.given ∙ ap givens_of began in
-      let told : TellsWhereLegal c run limit heard.entries last.auditor.refusal last.watch =
+      let told : TellsWhereLegal c run limit (stored_in opening.store) heard.entries last.auditor.refusal last.watch =
       tells_where g heard.entries last.auditor.run given last.watch last.auditor.refusal heard.taken.found heard.sees in
-      let tells : TellsWhereLegal c run limit heard.entries x.refusal x.watch =
-      subst (λ (w : Watch). TellsWhereLegal c run limit heard.entries x.refusal w) (sym watch_is)
-      (subst (λ (r : Option Refusal). TellsWhereLegal c run limit heard.entries r last.watch) (sym refusal_is) told) in
+      let tells : TellsWhereLegal c run limit (stored_in opening.store) heard.entries x.refusal x.watch =
+      subst (λ (w : Watch). TellsWhereLegal c run limit (stored_in opening.store) heard.entries x.refusal w) (sym watch_is)
+      (subst (λ (r : Option Refusal). TellsWhereLegal c run limit (stored_in opening.store) heard.entries r last.watch) (sym refusal_is) told) in
       record {
         journal = record { run = run; rows = states opening.store; entries = heard.entries };
         reads = before text is ∙ ap (with_entries run (states opening.store)) heard.read;
+        opening = opening.store;
+        rows = refl;
         first = line_is ∙ numbered 2 None is.rows (front_seen opening) is.opening_is;
         asked = ap (λ (w : Watch). w.asked) watch_is ∙ (heard.same ∙ named);
         tells = tells;

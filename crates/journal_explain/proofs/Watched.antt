@@ -1,38 +1,48 @@
 -- A watch sees one entry more.
-use Rattle.std.proofs.Common.{◌≡◌, ℕ, ◌<◌, ◌≤◌, Bool, true, false, ◌&&◌, nat_lt, if◌then◌else◌, List, [], ◌∷◌, ◌++◌, length, map, All, Option, Some, None, refl, sym, ◌∙◌, ap, ap₂, subst, arith, append_assoc}
+use Rattle.std.proofs.Common.{◌≡◌, ℕ, ◌<◌, ◌≤◌, ◌==◌, Bool, true, false, ◌&&◌, nat_lt, if◌then◌else◌, List, [], ◌∷◌, ◌++◌, length, map, All, Option, Some, None, refl, sym, ◌∙◌, ap, ap₂, subst, arith, append_assoc}
 use Rattle.std.specs.List.{AllZip, AllByRecursion}
 use Rattle.std.proofs.lemmas.List.{map-append}
 use Rattle.std.proofs.lemmas.List.Elements.{All-from_recursion, All-push, All-weaker, recursion_from_All}
-use Rattle.std.proofs.lemmas.Bool.{eq-eqb, false_from_ne_true, lt-ltb, ltb-true}
+use Rattle.std.proofs.lemmas.Bool.{eq-eqb, false_from_ne_true, lt-ltb, ltb-true, ne_eqb}
 use Rattle.poa_base.specs.declared.Call.{Call}
 use Rattle.poa_base.specs.declared.Config.{Config}
 use Rattle.poa_base.specs.declared.Entry.{Entry}
 use Rattle.poa_base.specs.declared.Entry.TheVariants.{Arrive}
 use Rattle.history_standing.specs.Arrivals.{arrivals, call_of, is_message}
+use Rattle.history_standing.specs.Keys.{key_in}
 use Rattle.history_standing.specs.Stages.{is_unadmitted}
 use Rattle.history_standing.specs.Situations.{facts_of}
 use Rattle.history_standing.proofs.CallsKept.{arrivals_kept, call_beyond, call_kept}
 use Rattle.poa_choose.specs.declared.MapFact.{MapFact}
-use Rattle.poa_history.specs.Life.{Life, with_entry}
+use Rattle.poa_history.specs.Life.{Life, opened, with_entry}
+use Rattle.poa_history.specs.States.{Stored}
+use Rattle.core_outboxes.specs.declared.filed.Filed.{Filed}
 use Rattle.journal_audit.specs.Judging.{Follows}
 use Rattle.core_turns.specs.Looks.{looked}
+use Rattle.journal_explain.specs.declared.adapter.Adapter.{Adapter}
 use Rattle.journal_explain.specs.declared.selection.Selection.{Selection}
 use Rattle.journal_explain.specs.declared.call_name.CallName.{CallName}
 use Rattle.journal_explain.specs.declared.came.Came.{Came}
 use Rattle.journal_explain.specs.declared.change.Change.{Change}
 use Rattle.journal_explain.specs.declared.doing.Doing.{Doing}
+use Rattle.journal_explain.specs.declared.event.Event.{Event}
+use Rattle.journal_explain.specs.declared.since.Since.{Since}
 use Rattle.journal_explain.specs.declared.object_trail.ObjectTrail.{ObjectTrail}
 use Rattle.journal_explain.specs.declared.step.Step.{Step}
+use Rattle.journal_explain.specs.declared.tenure.Tenure.{Tenure}
 use Rattle.journal_explain.specs.declared.trail.Trail.{Trail}
 use Rattle.journal_explain.specs.declared.wait.Wait.{Wait}
 use Rattle.journal_explain.specs.declared.watch.Watch.{Watch}
 use Rattle.journal_explain.specs.Explaining.{HasSeen, HasTraced, HasWatched, came_in}
+use Rattle.journal_explain.specs.Adapters.{adapter_at, adapter_for}
+use Rattle.journal_explain.specs.Managers.{held_by, holder, ruled_by, ruler}
 use Rattle.journal_explain.specs.Naming.{asks, is_all, name_of, names_in}
-use Rattle.journal_explain.specs.Objects.{changed_with, changes_in, command_by, doing_of, slot_asked}
+use Rattle.journal_explain.specs.Objects.{changed_with, changes_in, command_by, doing_of, slot_asked, stored_asked}
 use Rattle.journal_explain.specs.Outcomes.{calls_in, came_with}
-use Rattle.journal_explain.specs.Stories.{GoesOn, IfArrived, IsNews, IsStory, event_of, step_at, wait_by, wait_of}
-use Rattle.journal_explain.specs.Watching.{Begins, BeginsIf, BeginsOne, HasLooked, HasNoted, Looks, Notes, Traces}
+use Rattle.journal_explain.specs.Stories.{GoesOn, IfArrived, IsNews, IsStory, collected_by, event_of, step_at, wait_by, wait_of}
+use Rattle.journal_explain.specs.Watching.{Begins, BeginsIf, BeginsOne, Gets, HasGiven, HasLooked, HasNoted, KnowsManagers, Looks, Notes, Traces, handed_to, told_in}
 use Rattle.journal_explain.proofs.Going.{named_still}
+use Rattle.journal_explain.proofs.Turned.{knows_next, told_is}
 
 below : (r n : ℕ) → r < n → nat_lt r n ≡ true
 below r n low = lt-ltb r n low
@@ -41,10 +51,11 @@ above : (r n : ℕ) → n ≤ r → nat_lt r n ≡ false
 above r n high = false_from_ne_true (nat_lt r n) (λ less. (let low = ltb-true r n less in omega (arith, low, high)))
 
 -- of a call that hasn't arrived nothing is told
-untold : (c : Config) (run : ℕ) (h : List Entry) (r : ℕ) (steps : List Step) → arrivals h ≤ r → steps ≡ [] → IsStory c run h r steps
-untold c run [] r steps beyond none = none
-untold c run (e ∷ past) r steps beyond none =
-    subst (λ (b : Bool). IfArrived b ((before : List Step) × IsStory c run past r before × GoesOn c run past e r before steps) (steps ≡ []))
+untold : (c : Config) (run : ℕ) (op : Stored) (h : List Entry) (r : ℕ) (steps : List Step) → arrivals h ≤ r → steps ≡ []
+    → IsStory c run op h r steps
+untold c run op [] r steps beyond none = none
+untold c run op (e ∷ past) r steps beyond none =
+    subst (λ (b : Bool). IfArrived b ((before : List Step) × IsStory c run op past r before × GoesOn c run op past e r before steps) (steps ≡ []))
     (sym (above r (arrivals (e ∷ past)) beyond)) none
 
 and_false : (b : Bool) → (b && false) ≡ false
@@ -60,24 +71,35 @@ unwaited c run h r beyond =
 -- a trail of a call that has arrived with the next entry, if not before, tells what happened before it
 pub record IsBegun (past : Life) (e : Entry) (t : Trail) : Type 0 where
   pub call : call_of (e ∷ past.history) t.name.arrival ≡ Some t.call
-  pub steps : IsStory past.config past.run past.history t.name.arrival t.steps.items
+  pub steps : IsStory past.config past.run (opened past) past.history t.name.arrival t.steps.items
   pub wait : t.wait ≡ wait_of past.config past.run past.history t.name.arrival
+  pub adapter : t.adapter ≡ adapter_for past.config past.run (e ∷ past.history) t.name.arrival
   pub arrived : t.name.arrival < arrivals (e ∷ past.history)
+
+-- what stood when a call arrived stays
+adapter_kept : (c : Config) (run : ℕ) (e : Entry) (h : List Entry) (r : ℕ) → r < arrivals h → adapter_for c run (e ∷ h) r ≡ adapter_for c run h r
+adapter_kept c run (Arrive conn size call) h r low =
+    ap (λ (b : Bool). if b then adapter_at c run h (key_in (Some call)) else adapter_for c run h r)
+    (ne_eqb (arrivals h) r (λ same. omega (arith, low, same)))
+adapter_kept c run e h r low = refl
 
 still_begun : (past : Life) (e : Entry) (t : Trail) → HasSeen past t → IsBegun past e t
 still_begun past e t seen = record {
   call = call_kept e past.history t.name.arrival seen.arrived ∙ seen.call;
   steps = seen.steps;
   wait = seen.wait;
+  adapter = seen.adapter ∙ sym (adapter_kept past.config past.run e past.history t.name.arrival seen.arrived);
   arrived = (let before = seen.arrived in let kept = arrivals_kept e past.history in omega (arith, before, kept));
 }
 
 fresh_begun : (past : Life) (e : Entry) (t : Trail) → t.name.arrival ≡ arrivals past.history → t.steps.items ≡ [] → t.wait ≡ None
-    → arrivals past.history < arrivals (e ∷ past.history) → call_of (e ∷ past.history) (arrivals past.history) ≡ Some t.call → IsBegun past e t
-fresh_begun past e t here none free more came = record {
+    → arrivals past.history < arrivals (e ∷ past.history) → call_of (e ∷ past.history) (arrivals past.history) ≡ Some t.call
+    → t.adapter ≡ adapter_for past.config past.run (e ∷ past.history) (arrivals past.history) → IsBegun past e t
+fresh_begun past e t here none free more came stood = record {
   call = ap (call_of (e ∷ past.history)) here ∙ came;
-  steps = untold past.config past.run past.history t.name.arrival t.steps.items (omega (arith, here)) none;
+  steps = untold past.config past.run (opened past) past.history t.name.arrival t.steps.items (omega (arith, here)) none;
   wait = free ∙ sym (unwaited past.config past.run past.history t.name.arrival (omega (arith, here)));
+  adapter = stood ∙ ap (adapter_for past.config past.run (e ∷ past.history)) (sym here);
   arrived = omega (arith, here, more);
 }
 
@@ -98,9 +120,10 @@ module _ (past : Life) (e : Entry) (which : Selection) (olds begun : List Trail)
         (All-weaker (HasSeen past) (IsBegun past e) (still_begun past e) olds each);
   }
 
-  one_more : (name : CallName) (call : Call) → call_of (e ∷ past.history) (arrivals past.history) ≡ Some call → name.arrival ≡ arrivals past.history → arrivals past.history < arrivals (e ∷ past.history)
-      → names_in which (e ∷ past.history) ≡ names_in which past.history ++ name ∷ [] → BeginsOne name call olds begun → AreBegun past e which begun
-  one_more name call came here more is b = record {
+  one_more : (name : CallName) (call : Call) (adapter : Option Adapter) → adapter ≡ adapter_for past.config past.run (e ∷ past.history) (arrivals past.history)
+      → call_of (e ∷ past.history) (arrivals past.history) ≡ Some call → name.arrival ≡ arrivals past.history → arrivals past.history < arrivals (e ∷ past.history)
+      → names_in which (e ∷ past.history) ≡ names_in which past.history ++ name ∷ [] → BeginsOne name call adapter olds begun → AreBegun past e which begun
+  one_more name call adapter stood came here more is b = record {
     names =
         ap (map (λ (t : Trail). t.name)) b.behind
         ∙ (map-append (λ (t : Trail). t.name) olds (b.trail ∷ [])
@@ -108,67 +131,95 @@ module _ (past : Life) (e : Entry) (which : Selection) (olds begun : List Trail)
     each =
         subst (λ (ts : List Trail). All (IsBegun past e) ts) (sym b.behind)
         (All-push (IsBegun past e) olds b.trail (All-weaker (HasSeen past) (IsBegun past e) (still_begun past e) olds each)
-        (fresh_begun past e b.trail (ap (λ (n : CallName). n.arrival) b.named ∙ here) b.steps b.wait more (came ∙ ap Some (sym b.came))));
+        (fresh_begun past e b.trail (ap (λ (n : CallName). n.arrival) b.named ∙ here) b.steps b.wait more (came ∙ ap Some (sym b.came)) (b.adapter ∙ stood)));
   }
 
-  begun_if : (b : Bool) (name : CallName) (call : Call) → call_of (e ∷ past.history) (arrivals past.history) ≡ Some call → name.arrival ≡ arrivals past.history → arrivals past.history < arrivals (e ∷ past.history)
+  begun_if : (b : Bool) (name : CallName) (call : Call) (adapter : Option Adapter) → adapter ≡ adapter_for past.config past.run (e ∷ past.history) (arrivals past.history)
+      → call_of (e ∷ past.history) (arrivals past.history) ≡ Some call → name.arrival ≡ arrivals past.history → arrivals past.history < arrivals (e ∷ past.history)
       → names_in which (e ∷ past.history) ≡ (if b then names_in which past.history ++ name ∷ [] else names_in which past.history)
-      → BeginsIf b name call olds begun → AreBegun past e which begun
-  begun_if true name call came here more is b = one_more name call came here more is b
-  begun_if false name call came here more is same = others same is
+      → BeginsIf b name call adapter olds begun → AreBegun past e which begun
+  begun_if true name call adapter stood came here more is b = one_more name call adapter stood came here more is b
+  begun_if false name call adapter stood came here more is same = others same is
 
 begun_each : (past : Life) (e : Entry) (which : Selection) (olds begun : List Trail) → All (HasSeen past) olds
     → map (λ (t : Trail). t.name) olds ≡ names_in which past.history
-    → Begins which (arrivals past.history) (length past.history) e olds begun → AreBegun past e which begun
+    → Begins which past (length past.history) e olds begun → AreBegun past e which begun
 begun_each past (Arrive conn size call) which olds begun each names b =
     let name = name_of (arrivals past.history) conn call in
-    begun_if past (Arrive conn size call) which olds begun each names (asks which name (length past.history)) name call
-    (ap (λ (t : Bool). if t then Some call else call_of past.history (arrivals past.history)) (eq-eqb (arrivals past.history) (arrivals past.history) refl))
+    let stood = adapter_at past.config past.run past.history (key_in (Some call)) in
+    let now : (arrivals past.history == arrivals past.history) ≡ true = eq-eqb (arrivals past.history) (arrivals past.history) refl in
+    begun_if past (Arrive conn size call) which olds begun each names (asks which name (length past.history)) name call stood
+    (sym (ap (λ (t : Bool). if t then stood else adapter_for past.config past.run past.history (arrivals past.history)) now))
+    (ap (λ (t : Bool). if t then Some call else call_of past.history (arrivals past.history)) now)
     refl (omega arith) refl b
 begun_each past e which olds begun each names same = others past e which olds begun each names same refl
 
 -- one trail
-module _ (past : Life) (e : Entry) (place : ℕ) (here : place ≡ length past.history) (follows : Follows past e) where
-  seen_one : (old noted new : Trail) → IsBegun past e old → Notes past e place old noted → Looks (with_entry e past) place noted new
-      → HasSeen (with_entry e past) new
-  seen_one old noted new begun notes looks =
+module _ (past : Life) (e : Entry) (place : ℕ) (here : place ≡ length past.history) (follows : Follows past e) (filed : Option Filed)
+    (handed : (r : ℕ) → handed_to filed r ≡ collected_by past.config past.run (opened past) past.history e r) where
+  -- by the rows of the managers before the entry and behind it
+  seen_one : (rows after : List Since) → KnowsManagers past rows → KnowsManagers (with_entry e past) after
+      → (old noted given new : Trail) → IsBegun past e old → Notes past e place rows old noted → Gets filed place noted given
+      → Looks (with_entry e past) place after given new → HasSeen (with_entry e past) new
+  seen_one rows after knows knows_after old noted given new begun notes gets looks =
       let c = past.config in
       let run = past.run in
+      let op = opened past in
       let h = past.history in
       let r = old.name.arrival in
+      let event = event_of c run h e r in
+      let manager = ruled_by c run h e r in
+      let reply = collected_by c run op h e r in
       let first : noted.name.arrival ≡ r = ap (λ (n : CallName). n.arrival) notes.name in
-      let same : new.name.arrival ≡ r = ap (λ (n : CallName). n.arrival) looks.name ∙ first in
-      let waits : new.wait ≡ wait_of c run (e ∷ h) r = looks.wait ∙ ap (wait_of c run (e ∷ h)) first in
-      let goes : GoesOn c run h e r old.steps.items new.steps.items = record {
+      let second : given.name.arrival ≡ r = ap (λ (n : CallName). n.arrival) gets.name ∙ first in
+      let same : new.name.arrival ≡ r = ap (λ (n : CallName). n.arrival) looks.name ∙ second in
+      let waits : new.wait ≡ wait_of c run (e ∷ h) r = looks.wait ∙ ap (wait_of c run (e ∷ h)) second in
+      let by_rows : old.steps.items ++ step_at place event (told_in past rows (ruler c run h e r)) ≡ old.steps.items ++ step_at place event manager =
+      ap (λ (m : Option Tenure). old.steps.items ++ step_at place event m) (told_is past rows knows (ruler c run h e r)) in
+      let goes : GoesOn c run op h e r old.steps.items new.steps.items = record {
         news = looks.news;
         waits =
-            subst (λ (k : ℕ). IsNews k (wait_of c run h r) (wait_of c run (e ∷ h) r) looks.news) here
-            (subst (λ (w : Option Wait). IsNews place w (wait_of c run (e ∷ h) r) looks.news) (notes.wait ∙ begun.wait)
-            (subst (λ (w : Option Wait). IsNews place noted.wait w looks.news) waits looks.is_news));
+            subst (λ (k : ℕ). IsNews k (wait_of c run h r) (wait_of c run (e ∷ h) r) (held_by c (e ∷ h) (wait_of c run (e ∷ h) r)) looks.news) here
+            (subst (λ (w : Option Wait). IsNews place w (wait_of c run (e ∷ h) r) (held_by c (e ∷ h) (wait_of c run (e ∷ h) r)) looks.news)
+            (gets.wait ∙ (notes.wait ∙ begun.wait))
+            (subst (λ (w : Option Wait). IsNews place given.wait w (held_by c (e ∷ h) w) looks.news) waits
+            (subst (λ (m : Option Tenure). IsNews place given.wait new.wait m looks.news)
+            (told_is (with_entry e past) after knows_after (holder new.wait)) looks.is_news)));
         told =
-            looks.steps ∙ (ap (λ (s : List Step). s ++ looks.news) (notes.told follows)
-            ∙ (append_assoc old.steps.items (step_at place (event_of c run h e r)) looks.news
-            ∙ ap (λ (k : ℕ). old.steps.items ++ (step_at k (event_of c run h e r) ++ looks.news)) here));
+            looks.steps
+            ∙ (ap (λ (s : List Step). s ++ looks.news) (gets.told
+            ∙ ap₂ (λ (s : List Step) (o : Option Event). s ++ step_at place o None) (notes.told follows ∙ by_rows)
+            (ap (handed_to filed) first ∙ handed r))
+            ∙ (append_assoc (old.steps.items ++ step_at place event manager) (step_at place reply None) looks.news
+            ∙ (append_assoc old.steps.items (step_at place event manager) (step_at place reply None ++ looks.news)
+            ∙ ap (λ (k : ℕ). old.steps.items ++ (step_at k event manager ++ (step_at k reply None ++ looks.news))) here)));
       } in
-      let story : IsStory c run (e ∷ h) r new.steps.items =
-      subst (λ (b : Bool). IfArrived b ((before : List Step) × IsStory c run h r before × GoesOn c run h e r before new.steps.items)
+      let story : IsStory c run op (e ∷ h) r new.steps.items =
+      subst (λ (b : Bool). IfArrived b ((before : List Step) × IsStory c run op h r before × GoesOn c run op h e r before new.steps.items)
       (new.steps.items ≡ [])) (sym (below r (arrivals (e ∷ h)) begun.arrived)) (old.steps.items, begun.steps, goes) in
       record {
-        call = ap (call_of (e ∷ h)) same ∙ (begun.call ∙ ap Some (sym (looks.call ∙ notes.call)));
-        steps = subst (λ (k : ℕ). IsStory c run (e ∷ h) k new.steps.items) (sym same) story;
+        call = ap (call_of (e ∷ h)) same ∙ (begun.call ∙ ap Some (sym (looks.call ∙ (gets.call ∙ notes.call))));
+        steps = subst (λ (k : ℕ). IsStory c run op (e ∷ h) k new.steps.items) (sym same) story;
         wait = waits ∙ ap (wait_of c run (e ∷ h)) (sym same);
+        adapter = looks.adapter ∙ (gets.adapter ∙ (notes.adapter ∙ (begun.adapter ∙ ap (adapter_for c run (e ∷ h)) (sym same))));
         arrived = subst (λ (k : ℕ). k < arrivals (e ∷ h)) (sym same) begun.arrived;
       }
 
-  seen_each : (olds noted news : List Trail) → AllByRecursion (IsBegun past e) olds → AllZip (Notes past e place) olds noted
-      → AllZip (Looks (with_entry e past) place) noted news → AllByRecursion (HasSeen (with_entry e past)) news
-  seen_each [] [] [] begun notes looks = tt
-  seen_each [] [] (n ∷ news) begun notes looks = absurd looks
-  seen_each [] (m ∷ noted) news begun notes looks = absurd notes
-  seen_each (o ∷ olds) [] news begun notes looks = absurd notes
-  seen_each (o ∷ olds) (m ∷ noted) [] begun notes looks = absurd looks
-  seen_each (o ∷ olds) (m ∷ noted) (n ∷ news) begun notes looks =
-      (seen_one o m n begun.0 notes.0 looks.0, seen_each olds noted news begun.1 notes.1 looks.1)
+  seen_each : (rows after : List Since) → KnowsManagers past rows → KnowsManagers (with_entry e past) after
+      → (olds noted givens news : List Trail) → AllByRecursion (IsBegun past e) olds → AllZip (Notes past e place rows) olds noted
+      → AllZip (Gets filed place) noted givens → AllZip (Looks (with_entry e past) place after) givens news
+      → AllByRecursion (HasSeen (with_entry e past)) news
+  seen_each rows after knows knows_after [] [] [] [] begun notes gets looks = tt
+  seen_each rows after knows knows_after [] [] [] (n ∷ news) begun notes gets looks = absurd looks
+  seen_each rows after knows knows_after [] [] (g ∷ givens) news begun notes gets looks = absurd gets
+  seen_each rows after knows knows_after [] (m ∷ noted) givens news begun notes gets looks = absurd notes
+  seen_each rows after knows knows_after (o ∷ olds) [] givens news begun notes gets looks = absurd notes
+  seen_each rows after knows knows_after (o ∷ olds) (m ∷ noted) [] news begun notes gets looks = absurd gets
+  seen_each rows after knows knows_after (o ∷ olds) (m ∷ noted) (g ∷ givens) [] begun notes gets looks = absurd looks
+  seen_each rows after knows knows_after (o ∷ olds) (m ∷ noted) (g ∷ givens) (n ∷ news) begun notes gets looks = (
+    seen_one rows after knows knows_after o m g n begun.0 notes.0 gets.0 looks.0,
+    seen_each rows after knows knows_after olds noted givens news begun.1 notes.1 gets.1 looks.1,
+  )
 
   came_now : (b : Bool) (old new : List Came) → old ≡ (if b then calls_in past.config past.run past.history else [])
       → new ≡ (if b then came_with past.config past.run past.history e place old else old)
@@ -185,14 +236,16 @@ module _ (past : Life) (e : Entry) (place : ℕ) (here : place ≡ length past.h
       let run = past.run in
       let h = past.history in
       let now = slot_asked which c run (e ∷ h) in
+      let kept = stored_asked which c run (opened past) (e ∷ h) in
       record {
         opens = traces.opens ∙ had.opens;
+        stored = traces.stored ∙ had.stored;
         slot = traces.slot;
         changes =
             traces.changes
-            ∙ (ap₂ (λ (cs : List Change) (s : MapFact). cs ++ changed_with place doing (command_by (e ∷ h) doing) s now) had.changes had.slot
-            ∙ ap₂ (λ (k : ℕ) (d : Doing). changes_in which c run h ++ changed_with k d (command_by (e ∷ h) d) (slot_asked which c run h) now)
-            here is);
+            ∙ (ap₂ (λ (cs : List Change) (s : MapFact). cs ++ changed_with place doing (command_by (e ∷ h) doing) kept s now) had.changes had.slot
+            ∙ ap₂ (λ (k : ℕ) (d : Doing). changes_in which c run (opened past) h
+            ++ changed_with k d (command_by (e ∷ h) d) kept (slot_asked which c run h) now) here is);
       }
 
   traced_now : (doing : Doing) → doing ≡ doing_of e → (old noted new : Watch) → HasTraced old.asked past old.object → noted.asked ≡ old.asked
@@ -203,26 +256,32 @@ module _ (past : Life) (e : Entry) (place : ℕ) (here : place ≡ length past.h
       (subst (λ (a : Selection). Traces a (with_entry e past) place doing old.object new.object) asked
       (subst (λ (o : ObjectTrail). Traces noted.asked (with_entry e past) place doing o new.object) same traces))
 
-  pub watched : (doing : Doing) → doing ≡ doing_of e → (old noted new : Watch) → HasWatched past old → HasNoted past e place old noted
-      → HasLooked (with_entry e past) place doing noted new → HasWatched (with_entry e past) new
-  watched doing is old noted new before notes looks =
+  pub watched : (doing : Doing) → doing ≡ doing_of e → (old noted given new : Watch) → HasWatched past old → HasNoted past e place old noted
+      → HasGiven filed place noted given → HasLooked (with_entry e past) place doing given new → HasWatched (with_entry e past) new
+  watched doing is old noted given new before notes gives looks =
       let all : AreBegun past e old.asked notes.begun =
       begun_each past e old.asked old.trails.items notes.begun before.each before.names
-      (subst (λ (k : ℕ). Begins old.asked (arrivals past.history) k e old.trails.items notes.begun) here notes.begins) in
-      let same : new.asked ≡ old.asked = looks.asked ∙ notes.asked in
+      (subst (λ (k : ℕ). Begins old.asked past k e old.trails.items notes.begun) here notes.begins) in
+      let asked : given.asked ≡ old.asked = gives.asked ∙ notes.asked in
+      let same : new.asked ≡ old.asked = looks.asked ∙ asked in
+      let knows : KnowsManagers (with_entry e past) given.managers =
+      subst (λ (rows : List Since). KnowsManagers (with_entry e past) rows) (sym gives.managers)
+      (knows_next past e place here old.managers noted.managers before.managers notes.managers) in
       record {
+        managers = subst (λ (rows : List Since). KnowsManagers (with_entry e past) rows) (sym looks.managers) knows;
         names =
-            named_still (Looks (with_entry e past) place) (λ o n go. go.name) noted.trails.items new.trails.items looks.looks
-            ∙ (named_still (Notes past e place) (λ o n go. go.name) notes.begun noted.trails.items notes.notes
-            ∙ (all.names ∙ ap (λ (a : Selection). names_in a (e ∷ past.history)) (sym same)));
+            named_still (Looks (with_entry e past) place given.managers) (λ o n go. go.name) given.trails.items new.trails.items looks.looks
+            ∙ (named_still (Gets filed place) (λ o n go. go.name) noted.trails.items given.trails.items gives.gets
+            ∙ (named_still (Notes past e place old.managers) (λ o n go. go.name) notes.begun noted.trails.items notes.notes
+            ∙ (all.names ∙ ap (λ (a : Selection). names_in a (e ∷ past.history)) (sym same))));
         each =
             All-from_recursion (HasSeen (with_entry e past)) new.trails.items
-            (seen_each notes.begun noted.trails.items new.trails.items (recursion_from_All (IsBegun past e) notes.begun all.each) notes.notes
-            looks.looks);
+            (seen_each old.managers given.managers before.managers knows notes.begun noted.trails.items given.trails.items new.trails.items
+            (recursion_from_All (IsBegun past e) notes.begun all.each) notes.notes gives.gets looks.looks);
         object =
             subst (λ (a : Selection). HasTraced a (with_entry e past) new.object) (sym same)
-            (traced_now doing is old noted new before.object notes.asked notes.object looks.object);
+            (traced_now doing is old given new before.object asked (gives.object ∙ notes.object) looks.object);
         came =
-            came_now (is_all old.asked) old.came.items new.came.items before.came (looks.came ∙ notes.came)
+            came_now (is_all old.asked) old.came.items new.came.items before.came (looks.came ∙ (gives.came ∙ notes.came))
             ∙ ap (λ (a : Selection). came_in a past.config past.run (e ∷ past.history)) (sym same);
       }

@@ -1,4 +1,6 @@
 pub mod Rows
+pub mod Managers
+pub mod Adapters
 pub mod Stories
 pub mod Naming
 pub mod Outcomes

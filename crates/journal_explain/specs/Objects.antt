@@ -1,9 +1,10 @@
--- What a journal tells of an object: what its activations come to with each entry.
+-- What a journal tells of an object: what its activations come to with each entry, and what is stored for it.
 use Rattle.std.specs.Prelude.{ℕ, ◌==◌, if◌then◌else◌, List, [], ◌∷◌, ◌++◌, length, Option, Some, None, option_map}
 use Rattle.poa_base.specs.declared.Command.{Command}
 use Rattle.poa_base.specs.declared.Config.{Config}
 use Rattle.poa_base.specs.declared.Entry.{Entry}
 use Rattle.poa_base.specs.declared.Entry.TheVariants.{Admit, Incarnated, Done, TakeOut, Etherealized}
+use Rattle.poa_base.specs.declared.State.{State}
 use Rattle.poa_choose.specs.declared.MapFact.{MapFact}
 use Rattle.poa_choose.specs.declared.MapFact.TheVariants.{Active, Busy, Free}
 use Rattle.history_standing.specs.declared.activation.Activation.{Activation}
@@ -12,6 +13,7 @@ use Rattle.history_standing.specs.Changes.{standing}
 use Rattle.history_standing.specs.Logs.{command_in}
 use Rattle.history_standing.specs.Nodes.{node_at}
 use Rattle.history_standing.specs.Situations.{slot_of}
+use Rattle.poa_history.specs.States.{Stored, stored as stored_for}
 use Rattle.journal_explain.specs.declared.change.Change.{Change}
 use Rattle.journal_explain.specs.declared.doing.Doing.{Doing}
 use Rattle.journal_explain.specs.declared.doing.Doing.TheVariants.{Admits, Incarnates, Ends, TakesOut, Etherealizes, Other}
@@ -37,6 +39,14 @@ slot_asked (asked.Arrival r) c run h = Free
 slot_asked (asked.Call conn id) c run h = Free
 slot_asked (asked.Picture from to) c run h = Free
 slot_asked asked.All c run h = Free
+
+-- what is stored for the object that is asked for; nothing where none is
+abbrev pub stored_asked : Selection → Config → ℕ → Stored → List Entry → Option State
+stored_asked (asked.Object path oid) c run opened h = stored_for c run opened h path oid
+stored_asked (asked.Arrival r) c run opened h = None
+stored_asked (asked.Call conn id) c run opened h = None
+stored_asked (asked.Picture from to) c run opened h = None
+stored_asked asked.All c run opened h = None
 
 -- what an entry does that may change it
 abbrev pub doing_of : Entry → Doing
@@ -80,17 +90,25 @@ abbrev pub command_by : List Entry → Doing → Option Command
 command_by h (Admits r) = command_in (call_of h r)
 command_by h doing = None
 
--- with the entry at this place
-abbrev pub noted : ℕ → Doing → Option Command → Option Moment → List Change
-noted place doing command None = []
-noted place doing command (Some m) = record { entry = place; moment = m; doing = doing; command = command } ∷ []
+-- what is stored behind an entry, where a servant was etherealized with it
+abbrev pub stored_by : Doing → Option State → Option State
+stored_by Etherealizes state = state
+stored_by doing state = None
 
-abbrev pub changed_with : ℕ → Doing → Option Command → MapFact → MapFact → List Change
-changed_with place doing command before after = noted place doing command (moment_of doing before after)
+-- with the entry at this place
+abbrev pub noted : ℕ → Doing → Option Command → Option State → Option Moment → List Change
+noted place doing command state None = []
+noted place doing command state (Some m) =
+    record { entry = place; moment = m; doing = doing; command = command; stored = state } ∷ []
+
+abbrev pub changed_with : ℕ → Doing → Option Command → Option State → MapFact → MapFact → List Change
+changed_with place doing command state before after =
+    noted place doing command (stored_by doing state) (moment_of doing before after)
 
 -- what the activations of the object that is asked for came to with each entry, in the order of the journal
-abbrev pub changes_in : Selection → Config → ℕ → List Entry → List Change
-changes_in which c run [] = []
-changes_in which c run (e ∷ past) =
-    changes_in which c run past
-    ++ changed_with (length past) (doing_of e) (command_by (e ∷ past) (doing_of e)) (slot_asked which c run past) (slot_asked which c run (e ∷ past))
+abbrev pub changes_in : Selection → Config → ℕ → Stored → List Entry → List Change
+changes_in which c run opened [] = []
+changes_in which c run opened (e ∷ past) =
+    changes_in which c run opened past
+    ++ changed_with (length past) (doing_of e) (command_by (e ∷ past) (doing_of e)) (stored_asked which c run opened (e ∷ past))
+    (slot_asked which c run past) (slot_asked which c run (e ∷ past))

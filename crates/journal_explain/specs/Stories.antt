@@ -3,9 +3,12 @@ use Rattle.std.specs.Prelude.{◌≡◌, ℕ, ◌==◌, nat_lt, Bool, true, fals
 use Rattle.poa_base.specs.declared.Config.{Config}
 use Rattle.poa_base.specs.declared.Entry.{Entry}
 use Rattle.poa_base.specs.declared.Entry.TheVariants.{Arrive, Collect, Admit, Tried, Incarnated, Run, Done}
+use Rattle.poa_base.specs.declared.Reply.{Reply}
 use Rattle.history_standing.specs.Arrivals.{arrivals, call_of, is_message}
 use Rattle.history_standing.specs.Stages.{arrival_in, brings, is_at, stage}
 use Rattle.history_standing.specs.Situations.{facts_of}
+use Rattle.poa_history.specs.Replies.{reply_of}
+use Rattle.poa_history.specs.States.{Stored}
 use Rattle.poa_history.specs.Waiting.{is_waiting}
 use Rattle.core_turns.specs.Looks.{looked}
 use Rattle.core_turns.specs.declared.Look.{Look}
@@ -14,8 +17,10 @@ use Rattle.journal_explain.specs.declared.event.Event.{Event}
 use Rattle.journal_explain.specs.declared.event.Event.TheVariants as event
 use Rattle.journal_explain.specs.declared.row.Row.{Row}
 use Rattle.journal_explain.specs.declared.step.Step.{Step}
+use Rattle.journal_explain.specs.declared.tenure.Tenure.{Tenure}
 use Rattle.journal_explain.specs.declared.wait.Wait.{Wait}
 use Rattle.journal_explain.specs.declared.wait.Wait.TheVariants.{Worker, Held}
+use Rattle.journal_explain.specs.Managers.{held_by, ruled_by}
 use Rattle.journal_explain.specs.Rows.{row_of}
 
 -- what a look finds: a verdict, so that it waits for a worker alone; or what holds it
@@ -35,7 +40,7 @@ row_for c run past r w = if is_message (call_of past r) then Some (row_of (facts
 abbrev pub at_work : List Entry → ℕ → ℕ → Event → Option Event
 at_work past w r told = if is_at r (arrival_in (stage past w)) then Some told else None
 
--- what an entry is to the call, after the entries before it
+-- what an entry is to the call, after the entries before it, beside the reply that is collected with it
 abbrev pub event_of : Config → ℕ → List Entry → Entry → ℕ → Option Event
 event_of c run past (Arrive conn size call) r = if arrivals past == r then Some event.Arrived else None
 event_of c run past (Admit w a verdict) r = if a == r then Some (event.Admitted w (row_for c run past r w) verdict) else None
@@ -43,27 +48,39 @@ event_of c run past (Tried w answer) r = at_work past w r (event.Tried answer)
 event_of c run past (Incarnated w answer) r = at_work past w r (event.Incarnated (brings answer))
 event_of c run past (Run w) r = at_work past w r event.Ran
 event_of c run past (Done w) r = at_work past w r event.Ended
-event_of c run past (Collect conn a) r = if a == r then Some event.Collected else None
 event_of c run past e r = None
 
--- a step with the entry at this place
-abbrev pub step_at : ℕ → Option Event → List Step
-step_at place None = []
-step_at place (Some told) = record { entry = place; event = told } ∷ []
+-- the reply to the call that is collected
+abbrev pub collected : Option Reply → Option Event
+collected None = None
+collected (Some reply) = Some (event.Collected reply)
+
+-- the reply to the call, where it is collected with an entry
+abbrev pub collected_by : Config → ℕ → Stored → List Entry → Entry → ℕ → Option Event
+collected_by c run opened past (Collect conn a) r = if a == r then collected (reply_of c run opened past a) else None
+collected_by c run opened past e r = None
+
+-- a step with the entry at this place, by the state of this manager
+abbrev pub step_at : ℕ → Option Event → Option Tenure → List Step
+step_at place None manager = []
+step_at place (Some told) manager = record { entry = place; event = told; manager = manager } ∷ []
 
 -- it waits for something else than before the entry
-abbrev pub waits_at : ℕ → Option Wait → List Step
-waits_at place None = []
-waits_at place (Some wait) = record { entry = place; event = event.Waits wait } ∷ []
+abbrev pub waits_at : ℕ → Option Wait → Option Tenure → List Step
+waits_at place None manager = []
+waits_at place (Some wait) manager = record { entry = place; event = event.Waits wait; manager = manager } ∷ []
 
-abbrev pub IsNews : ℕ → Option Wait → Option Wait → List Step → Type 0
-IsNews place old new steps = ((new ≡ old) × (steps ≡ [])) ⊎ ((new ≡ old → ⊥) × (steps ≡ waits_at place new))
+abbrev pub IsNews : ℕ → Option Wait → Option Wait → Option Tenure → List Step → Type 0
+IsNews place old new manager steps =
+    ((new ≡ old) × (steps ≡ [])) ⊎ ((new ≡ old → ⊥) × (steps ≡ waits_at place new manager))
 
 -- one entry more
-pub record GoesOn (c : Config) (run : ℕ) (past : List Entry) (e : Entry) (r : ℕ) (before after : List Step) : Type 0 where
+pub record GoesOn (c : Config) (run : ℕ) (opened : Stored) (past : List Entry) (e : Entry) (r : ℕ) (before after : List Step) : Type 0 where
   pub news : List Step
-  pub waits : IsNews (length past) (wait_of c run past r) (wait_of c run (e ∷ past) r) news
-  pub told : after ≡ before ++ (step_at (length past) (event_of c run past e r) ++ news)
+  pub waits : IsNews (length past) (wait_of c run past r) (wait_of c run (e ∷ past) r)
+      (held_by c (e ∷ past) (wait_of c run (e ∷ past) r)) news
+  pub told : after ≡ before ++ (step_at (length past) (event_of c run past e r) (ruled_by c run past e r)
+      ++ (step_at (length past) (collected_by c run opened past e r) None ++ news))
 
 -- of a call that has arrived the one, and of another the other
 abbrev pub IfArrived : Bool → Type 0 → Type 0 → Type 0
@@ -72,9 +89,9 @@ IfArrived false One Other = Other
 
 -- these are the steps of the call, the first one first: none before it arrives, and from there on with each entry what it is to
 -- the call, and then what the call waits for where that is another than before
-abbrev pub IsStory : Config → ℕ → List Entry → ℕ → List Step → Type 0
-IsStory c run [] r steps = steps ≡ []
-IsStory c run (e ∷ past) r steps =
+abbrev pub IsStory : Config → ℕ → Stored → List Entry → ℕ → List Step → Type 0
+IsStory c run opened [] r steps = steps ≡ []
+IsStory c run opened (e ∷ past) r steps =
     IfArrived (nat_lt r (arrivals (e ∷ past)))
-    ((before : List Step) × IsStory c run past r before × GoesOn c run past e r before steps)
+    ((before : List Step) × IsStory c run opened past r before × GoesOn c run opened past e r before steps)
     (steps ≡ [])

@@ -1,67 +1,134 @@
 -- How a watch goes on with an entry. These words are for contracts inside of this crate.
-use Rattle.std.specs.Prelude.{◌≡◌, ℕ, Bool, true, false, if◌then◌else◌, List, [], ◌∷◌, ◌++◌, None}
+use Rattle.std.specs.Prelude.{◌≡◌, ℕ, ◌==◌, Bool, true, false, if◌then◌else◌, List, [], ◌∷◌, ◌++◌, find, Option, Some, None, option_map}
 use Rattle.std.specs.List.{AllZip}
 use Rattle.poa_base.specs.declared.Call.{Call}
+use Rattle.poa_base.specs.declared.Command.{Command}
+use Rattle.poa_base.specs.declared.Command.TheVariants.{Manager}
+use Rattle.poa_base.specs.declared.Config.{Config}
 use Rattle.poa_base.specs.declared.Entry.{Entry}
-use Rattle.poa_base.specs.declared.Entry.TheVariants.{Arrive}
+use Rattle.poa_base.specs.declared.Entry.TheVariants.{Arrive, Collect}
 use Rattle.history_standing.specs.Arrivals.{arrivals}
-use Rattle.poa_history.specs.Life.{Life}
+use Rattle.history_standing.specs.Keys.{key_in}
+use Rattle.history_standing.specs.Logs.{manager_state}
+use Rattle.history_standing.specs.Templates.{manager_number}
+use Rattle.poa_history.specs.Life.{Life, opened}
 use Rattle.journal_audit.specs.Judging.{Follows}
+use Rattle.core_outboxes.specs.declared.filed.Filed.{Filed}
 use Rattle.journal_explain.specs.declared.selection.Selection.{Selection}
 use Rattle.journal_explain.specs.declared.call_name.CallName.{CallName}
+use Rattle.journal_explain.specs.declared.adapter.Adapter.{Adapter}
+use Rattle.journal_explain.specs.declared.since.Since.{Since}
 use Rattle.journal_explain.specs.declared.step.Step.{Step}
+use Rattle.journal_explain.specs.declared.tenure.Tenure.{Tenure}
 use Rattle.journal_explain.specs.declared.came.Came.{Came}
 use Rattle.journal_explain.specs.declared.trail.Trail.{Trail}
 use Rattle.journal_explain.specs.declared.watch.Watch.{Watch}
 use Rattle.journal_explain.specs.Naming.{asks, is_all, name_of}
 use Rattle.journal_explain.specs.declared.doing.Doing.{Doing}
 use Rattle.journal_explain.specs.declared.object_trail.ObjectTrail.{ObjectTrail}
-use Rattle.journal_explain.specs.Objects.{changed_with, command_by, slot_asked}
+use Rattle.journal_explain.specs.Adapters.{adapter_at}
+use Rattle.journal_explain.specs.Managers.{holder, ruler, since_of, since_with, tenure_by, turns}
+use Rattle.journal_explain.specs.Objects.{changed_with, command_by, slot_asked, stored_asked}
 use Rattle.journal_explain.specs.Outcomes.{came_with}
-use Rattle.journal_explain.specs.Stories.{IsNews, event_of, step_at, wait_of}
+use Rattle.journal_explain.specs.Stories.{IsNews, collected, event_of, step_at, wait_of}
+use Rattle.journal_explain.specs.declared.event.Event.{Event}
+
+-- since when a manager is in its state, by the rows of those that came to another
+abbrev pub since_in : List Since → ℕ → Option Since
+since_in rows m = find (λ s. s.manager == m) rows
+
+-- a manager has this row now, and every other what it had
+abbrev pub IsPut : Since → List Since → List Since → Type 0
+IsPut row old new = (m : ℕ) → since_in new m ≡ (if row.manager == m then Some row else since_in old m)
+
+-- they say what the history says
+abbrev pub KnowsManagers : Life → List Since → Type 0
+KnowsManagers life rows = (m : ℕ) → since_in rows m ≡ since_of life.config life.history m
+
+-- the manager that a command, done next, brings to another state
+abbrev pub turned_by : Config → List Entry → Option Command → Option ℕ
+turned_by c past (Some (Manager name order)) =
+    elim (manager_number c name) [ Some k ↦ (if turns (manager_state c past k) (Some order) then Some k else None) | None ↦ None ]
+turned_by c past command = None
+
+-- the next entry of a run, at this place
+abbrev pub Turns : Life → Entry → ℕ → List Since → List Since → Type 0
+Turns past e place old new = (m : ℕ) → since_in new m ≡ since_with past.config past.history e place m (since_in old m)
+
+-- a manager after a history, by the rows
+abbrev pub tenure_in : Life → List Since → ℕ → Tenure
+tenure_in life rows m = tenure_by life.config life.history m (since_in rows m)
+
+abbrev pub told_in : Life → List Since → Option ℕ → Option Tenure
+told_in life rows manager = option_map (tenure_in life rows) manager
 
 -- one more, of which nothing has been seen
-pub record BeginsOne (name : CallName) (call : Call) (old new : List Trail) : Type 0 where
+pub record BeginsOne (name : CallName) (call : Call) (stood : Option Adapter) (old new : List Trail) : Type 0 where
   pub trail : Trail
   pub named : trail.name ≡ name
   pub came : trail.call ≡ call
+  pub adapter : trail.adapter ≡ stood
   pub steps : trail.steps.items ≡ []
   pub wait : trail.wait ≡ None
   pub behind : new ≡ old ++ trail ∷ []
 
-abbrev pub BeginsIf : Bool → CallName → Call → List Trail → List Trail → Type 0
-BeginsIf true name call old new = BeginsOne name call old new
-BeginsIf false name call old new = new ≡ old
+abbrev pub BeginsIf : Bool → CallName → Call → Option Adapter → List Trail → List Trail → Type 0
+BeginsIf true name call adapter old new = BeginsOne name call adapter old new
+BeginsIf false name call adapter old new = new ≡ old
 
--- where a call that is asked for arrives as the one of this number, with the entry at this place
-abbrev pub Begins : Selection → ℕ → ℕ → Entry → List Trail → List Trail → Type 0
-Begins which r place (Arrive conn size call) old new =
-    BeginsIf (asks which (name_of r conn call) place) (name_of r conn call) call old new
-Begins which r place e old new = new ≡ old
+-- where a call that is asked for arrives with the next entry of a run, at this place
+abbrev pub Begins : Selection → Life → ℕ → Entry → List Trail → List Trail → Type 0
+Begins which past place (Arrive conn size call) old new =
+    BeginsIf (asks which (name_of (arrivals past.history) conn call) place) (name_of (arrivals past.history) conn call) call
+    (adapter_at past.config past.run past.history (key_in (Some call))) old new
+Begins which past place e old new = new ≡ old
 
--- what the next entry of a run, at this place, is to the call
-pub record Notes (past : Life) (e : Entry) (place : ℕ) (old new : Trail) : Type 0 where
+-- what the next entry of a run, at this place, is to the call, by the rows of the managers
+pub record Notes (past : Life) (e : Entry) (place : ℕ) (rows : List Since) (old new : Trail) : Type 0 where
   pub name : new.name ≡ old.name
   pub call : new.call ≡ old.call
+  pub adapter : new.adapter ≡ old.adapter
   pub told : Follows past e
       → new.steps.items ≡ old.steps.items ++ step_at place (event_of past.config past.run past.history e old.name.arrival)
+      (told_in past rows (ruler past.config past.run past.history e old.name.arrival))
   pub wait : new.wait ≡ old.wait
 
--- what the call waits for in a run behind the entry at this place
-pub record Looks (life : Life) (place : ℕ) (old new : Trail) : Type 0 where
+-- an entry collects a reply
+abbrev pub is_collect : Entry → Bool
+is_collect (Collect conn a) = true
+is_collect e = false
+
+-- the reply that was collected, where it is one to the call
+abbrev pub handed_to : Option Filed → ℕ → Option Event
+handed_to None r = None
+handed_to (Some f) r = if f.arrival == r then collected (Some f.reply) else None
+
+-- this reply was collected with the entry at this place
+pub record Gets (given : Option Filed) (place : ℕ) (old new : Trail) : Type 0 where
   pub name : new.name ≡ old.name
   pub call : new.call ≡ old.call
+  pub adapter : new.adapter ≡ old.adapter
+  pub told : new.steps.items ≡ old.steps.items ++ step_at place (handed_to given old.name.arrival) None
+  pub wait : new.wait ≡ old.wait
+
+-- what the call waits for in a run behind the entry at this place, by the rows of the managers
+pub record Looks (life : Life) (place : ℕ) (rows : List Since) (old new : Trail) : Type 0 where
+  pub name : new.name ≡ old.name
+  pub call : new.call ≡ old.call
+  pub adapter : new.adapter ≡ old.adapter
   pub wait : new.wait ≡ wait_of life.config life.run life.history old.name.arrival
   pub news : List Step
-  pub is_news : IsNews place old.wait new.wait news
+  pub is_news : IsNews place old.wait new.wait (told_in life rows (holder new.wait)) news
   pub steps : new.steps.items ≡ old.steps.items ++ news
 
 -- what stands of the object that is asked for, in a run behind the entry at this place, which does this
 pub record Traces (which : Selection) (life : Life) (place : ℕ) (doing : Doing) (old new : ObjectTrail) : Type 0 where
   pub opens : new.opens ≡ old.opens
+  pub stored : new.stored ≡ old.stored
   pub slot : new.slot ≡ slot_asked which life.config life.run life.history
   pub changes : new.changes.items ≡ old.changes.items
-      ++ changed_with place doing (command_by life.history doing) old.slot (slot_asked which life.config life.run life.history)
+      ++ changed_with place doing (command_by life.history doing) (stored_asked which life.config life.run (opened life) life.history)
+      old.slot (slot_asked which life.config life.run life.history)
 
 -- what the next entry makes of all calls, where that is asked
 abbrev pub came_next : Selection → Life → Entry → ℕ → List Came → List Came
@@ -71,14 +138,24 @@ came_next which past e place came = if is_all which then came_with past.config p
 pub record HasNoted (past : Life) (e : Entry) (place : ℕ) (old new : Watch) : Type 0 where
   pub asked : new.asked ≡ old.asked
   pub begun : List Trail
-  pub begins : Begins old.asked (arrivals past.history) place e old.trails.items begun
-  pub notes : AllZip (Notes past e place) begun new.trails.items
+  pub begins : Begins old.asked past place e old.trails.items begun
+  pub notes : AllZip (Notes past e place old.managers) begun new.trails.items
+  pub managers : Turns past e place old.managers new.managers
   pub object : new.object ≡ old.object
   pub came : new.came.items ≡ came_next old.asked past e place old.came.items
+
+-- the reply that was collected with the entry at this place was noted
+pub record HasGiven (given : Option Filed) (place : ℕ) (old new : Watch) : Type 0 where
+  pub asked : new.asked ≡ old.asked
+  pub gets : AllZip (Gets given place) old.trails.items new.trails.items
+  pub managers : new.managers ≡ old.managers
+  pub object : new.object ≡ old.object
+  pub came : new.came.items ≡ old.came.items
 
 -- what is waited for in a run behind the entry at this place, which does this, was noted, and what stands of the object
 pub record HasLooked (life : Life) (place : ℕ) (doing : Doing) (old new : Watch) : Type 0 where
   pub asked : new.asked ≡ old.asked
-  pub looks : AllZip (Looks life place) old.trails.items new.trails.items
+  pub looks : AllZip (Looks life place old.managers) old.trails.items new.trails.items
+  pub managers : new.managers ≡ old.managers
   pub object : Traces old.asked life place doing old.object new.object
   pub came : new.came.items ≡ old.came.items

@@ -1,7 +1,7 @@
 //! What an entry of a journal is to a call.
 use crate::row::Row;
 use crate::wait::Wait;
-use poa_base::{Attempt, Verdict};
+use poa_base::{Attempt, Reply, Verdict};
 
 /// What happened to a call with an entry of the journal.
 #[derive(Drop)]
@@ -27,6 +27,6 @@ pub enum Event {
     Ran,
     /// The request ended.
     Ended,
-    /// Its reply was taken for writing.
-    Collected,
+    /// This reply to it was taken for writing.
+    Collected(Reply),
 }

@@ -6,6 +6,7 @@ ghost use Rattle.journal_audit.specs.Auditing.{HasTaken};
 ghost use Rattle.journal_explain.specs.Explaining.{Hears, Sees};
 
 use crate::doing::Doing;
+use crate::replies::{given_by, is_collect};
 use crate::selection::Selection;
 use crate::watch::Watch;
 use journal_audit::Auditor;
@@ -40,7 +41,7 @@ impl Explainer {
         ensures asked { IfOk result (λ explainer. explainer.watch.asked ≡ asked) }
     {
         let auditor = Auditor::new(alloc, config, run, opening, limit)?;
-        let watch = Watch::new(alloc, &auditor.run, asked);
+        let watch = Watch::new(alloc, &auditor.run, asked)?;
         Ok(Explainer {
             alloc,
             auditor,
@@ -55,12 +56,15 @@ impl Explainer {
     {
         let place = self.auditor.run.entries().len() as u64;
         let doing = Doing::of(&entry);
+        let collects = is_collect(&entry);
         self.watch
             .note(self.alloc, &self.auditor.run, &entry, place)?;
-        self.auditor.take(entry)?;
+        let followed = self.auditor.follow(entry)?;
         if self.auditor.refusal.is_some() {
             return Ok(());
         }
+        let given = given_by(collects, followed);
+        self.watch.give(place, &given)?;
         self.watch.look(self.alloc, &self.auditor.run, place, doing)
     }
 }

@@ -2,6 +2,7 @@
 ghost use Rattle.std.specs.Prelude.{◌≡◌, if◌then◌else◌, IfOk, Some, None, option_copied};
 ghost use Rattle.history_standing.specs.Arrivals as called;
 ghost use Rattle.history_standing.specs.Arrivals.{is_message as is_message_of};
+ghost use Rattle.history_standing.specs.Logs as logs;
 ghost use Rattle.history_standing.specs.Situations as situations;
 ghost use Rattle.journal_explain.specs.Objects as objects;
 ghost use Rattle.journal_explain.specs.Stories as stories;
@@ -11,9 +12,10 @@ use crate::wait::Wait;
 use core_arrivals::calls::call;
 use core_arrivals::queue::{is_crowded, waits};
 use core_run::Run;
+use core_settings::manager_state;
 use core_standing::asked_commands::command_in;
 use core_turns::{Look, facts_of, look_at};
-use poa_base::{Call, Command, TryClone, WantMemory};
+use poa_base::{Call, Command, ManagerState, TryClone, WantMemory};
 use poa_choose::Facts;
 use poa_history::calls::is_message;
 use std::alloc::Global;
@@ -84,8 +86,17 @@ fn wait_by(look: &Look) -> Wait
     }
 }
 
+/// The state of a manager.
+pub(crate) fn state_of(run: &Run, manager: u32) -> ManagerState
+    ensures { result ≡ logs.manager_state run.now.config run.now.history manager }
+{
+    let state = run.state();
+    let found = manager_state(&state.settings, manager);
+    found
+}
+
 /// The call of an arrival.
-fn call_of(run: &Run, arrival: u64) -> Option<&Call>
+pub(crate) fn call_of(run: &Run, arrival: u64) -> Option<&Call>
     ensures { option_copied result ≡ called.call_of run.now.history arrival }
 {
     let found = call(run.entries(), &run.tables().calls, arrival);

@@ -1,8 +1,10 @@
-//! Calls explained from a journal: what happened to each with each entry, what it waited for, and which row of the table of
-//! verdicts decided it; or of all calls what came of them. `specs/Rows.antt` has the rows by their names, `specs/Stories.antt`
-//! what is told of a call, and `specs/Outcomes.antt` what came of all.
+//! Calls explained from a journal: the adapter that each asks, what happened to it with each entry, what it waited for, which row
+//! of the table of verdicts decided it, and its reply; or of all calls what came of them. `specs/Rows.antt` has the rows by their
+//! names, `specs/Managers.antt` since when the managers are in their states, `specs/Adapters.antt` the adapter of a call,
+//! `specs/Stories.antt` what is told of a call, `specs/Objects.antt` what of an object, and `specs/Outcomes.antt` what came of all.
 #![tactic(auto)]
 
+mod adapter;
 mod call_name;
 mod came;
 mod change;
@@ -13,20 +15,28 @@ mod explainer;
 mod explanation;
 mod facing;
 mod lines;
+mod managers;
 mod moment;
 mod object_trail;
 mod outcome;
+mod replies;
 mod row;
+mod ruling;
 mod selection;
+mod since;
 mod slots;
 mod step;
+mod storing;
 mod telling;
+mod tenure;
 mod text;
 mod trail;
 mod trails;
+mod turning;
 mod wait;
 mod watch;
 
+pub use adapter::Adapter;
 pub use call_name::CallName;
 pub use came::Came;
 pub use change::Change;
@@ -35,12 +45,15 @@ pub use doing::Doing;
 pub use event::Event;
 pub use explainer::Explainer;
 pub use explanation::Explanation;
+pub use managers::Managers;
 pub use moment::Moment;
 pub use object_trail::ObjectTrail;
 pub use outcome::Outcome;
 pub use row::Row;
 pub use selection::Selection;
+pub use since::Since;
 pub use step::Step;
+pub use tenure::Tenure;
 pub use text::explain_text;
 pub use trail::Trail;
 pub use wait::Wait;

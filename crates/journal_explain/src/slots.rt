@@ -2,14 +2,12 @@
 ghost use Rattle.std.specs.Prelude.{◌≡◌};
 ghost use Rattle.history_standing.specs.Changes.{standing as stands_after};
 ghost use Rattle.history_standing.specs.Situations as situations;
-ghost use Rattle.core_standing.specs.Seen.{seen};
 ghost use Rattle.journal_explain.specs.Objects as objects;
 
 use crate::selection::Selection;
-use active_map::Activations;
 use core_run::Run;
-use core_standing::Standing;
-use poa_base::{Config, Path};
+use core_turns::slot_of;
+use poa_base::Path;
 use poa_choose::MapFact;
 
 /// What the map has for the object that is asked for; nothing where none is.
@@ -30,38 +28,18 @@ fn slot_at(run: &Run, path: &Path, oid: &[u8]) -> MapFact
     ensures { result ≡ objects.slot_at run.now.config run.now.run run.now.history path.now oid.now }
 {
     match run.adapter_number(path) {
-        Some(adapter) => slot_of(run, adapter, oid),
+        Some(adapter) => slot_in(run, adapter, oid),
         None => MapFact::Free,
     }
 }
 
 /// What the map of the adapter of this number has for an id.
-fn slot_of(run: &Run, adapter: u32, oid: &[u8]) -> MapFact
+fn slot_in(run: &Run, adapter: u32, oid: &[u8]) -> MapFact
     ensures { result ≡ situations.slot_of run.now.config
         (stands_after run.now.config run.now.run run.now.history).activations adapter oid.now }
 {
     run.keeps_laws();
     let state = run.state();
-    let slot = slot_kept(run.config(), &state.standing, adapter, oid);
+    let slot = slot_of(run.config(), &state.standing, adapter, oid);
     slot
-}
-
-/// The same of what is kept of the activations.
-fn slot_kept(config: &Config, standing: &Standing, adapter: u32, oid: &[u8]) -> MapFact
-    ensures { result ≡ situations.slot_of config.now (seen standing.now).activations adapter
-        oid.now }
-{
-    slot_among(config, &standing.activations, adapter, oid)
-}
-
-fn slot_among(config: &Config, activations: &Activations, adapter: u32, oid: &[u8]) -> MapFact
-    ensures { result ≡ situations.slot_of config.now activations.now.kept adapter oid.now }
-{
-    match activations.active_of(adapter, oid) {
-        Some(activation) => MapFact::Active(activation.number),
-        None => match activations.live_of(config, adapter, oid) {
-            Some(activation) => MapFact::Busy(activation.number),
-            None => MapFact::Free,
-        },
-    }
 }

@@ -1,9 +1,12 @@
 //! A step on a call's way.
 use crate::event::Event;
+use crate::tenure::Tenure;
 
 /// What happened to a call with the entry at this place of the journal, from 0 on.
 #[derive(Drop)]
 pub struct Step {
     pub entry: u64,
     pub event: Event,
+    /// The manager by whose state it is held or admitted, where it is by one's.
+    pub manager: Option<Tenure>,
 }

@@ -15,7 +15,7 @@ use std::alloc::Global;
 /// How many workers a run has.
 const WORKERS: u32 = 16;
 
-/// What the next entry of a run, where it may follow, is to a call.
+/// What the next entry of a run, where it may follow, is to a call, beside the reply that is collected with it.
 pub(crate) fn event_of(
     alloc: Global,
     run: &Run,
@@ -50,10 +50,6 @@ pub(crate) fn event_of(
         }
         Entry::Run { worker } => Ok(at_work(run, *worker, arrival, Event::Ran)),
         Entry::Done { worker } => Ok(at_work(run, *worker, arrival, Event::Ended)),
-        Entry::Collect {
-            arrival: collected,
-            ..
-        } => Ok(same(*collected, arrival, Event::Collected)),
         _ => Ok(None),
     }
 }

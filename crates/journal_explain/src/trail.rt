@@ -1,12 +1,17 @@
 //! The trail of one call.
 ghost use Rattle.std.specs.Prelude.{◌≡◌, ◌++◌, [], List, None, OnOk};
 ghost use Rattle.journal_explain.specs.Stories.{IsNews, step_at};
+ghost use Rattle.journal_explain.specs.Watching.{Gets};
 ghost use Rattle.journal_explain.specs.declared.step.Step.{Step as StepOf};
 
+use crate::adapter::Adapter;
 use crate::call_name::CallName;
 use crate::event::Event;
+use crate::replies::handed_to;
 use crate::step::Step;
+use crate::tenure::Tenure;
 use crate::wait::Wait;
+use core_outboxes::Filed;
 use poa_base::{Call, WantMemory};
 use std::alloc::Global;
 
@@ -15,13 +20,16 @@ use std::alloc::Global;
 pub struct Trail {
     pub name: CallName,
     pub call: Call,
+    /// The adapter that stood at the path of its key when it arrived.
+    pub adapter: Option<Adapter>,
     pub steps: Vec<Step>,
     pub wait: Option<Wait>,
 }
 
 impl Trail {
-    /// The trail of a call of which nothing has been seen.
-    pub(crate) fn new(alloc: Global, name: CallName, call: Call) -> Self
+    /// The trail of a call of which nothing has been seen, and of this adapter.
+    pub(crate) fn new(alloc: Global, name: CallName, call: Call, adapter: Option<Adapter>) -> Self
+        ensures adapter { result.adapter ≡ adapter }
         ensures name { result.name ≡ name }
         ensures call { result.call ≡ call }
         ensures steps { result.steps.items ≡ [] }
@@ -30,30 +38,58 @@ impl Trail {
         Trail {
             name,
             call,
+            adapter,
             steps: Vec::new(alloc),
             wait: None,
         }
     }
 
-    /// Notes what the entry at this place was to the call.
-    pub(crate) fn note(&mut self, entry: u64, told: Option<Event>) -> Result<(), WantMemory>
-        ensures steps { OnOk result (self.new.steps.items ≡ self.old.steps.items ++ step_at entry told) }
+    /// Notes what the entry at this place was to the call, by the state of this manager.
+    pub(crate) fn note(
+        &mut self,
+        entry: u64,
+        told: Option<Event>,
+        manager: Option<Tenure>,
+    ) -> Result<(), WantMemory>
+        ensures steps { OnOk result
+            (self.new.steps.items ≡ self.old.steps.items ++ step_at entry told manager) }
         ensures name { self.new.name ≡ self.old.name }
         ensures call { self.new.call ≡ self.old.call }
+        ensures adapter { self.new.adapter ≡ self.old.adapter }
         ensures wait { self.new.wait ≡ self.old.wait }
     {
         if let Some(event) = told {
-            self.steps.push(Step { entry, event })?;
+            self.steps.push(Step {
+                entry,
+                event,
+                manager,
+            })?;
         }
         Ok(())
     }
 
-    /// Notes what the call waits for behind the entry at this place, where that is another thing than before.
-    pub(crate) fn wait_for(&mut self, entry: u64, wait: Option<Wait>) -> Result<(), WantMemory>
-        ensures steps { OnOk result ((news : List StepOf) × IsNews entry self.old.wait wait news
+    /// Notes the reply that was collected with the entry at this place, where it is one to the call.
+    pub(crate) fn get(&mut self, entry: u64, given: &Option<Filed>) -> Result<(), WantMemory>
+        ensures { OnOk result (Gets given.now entry self.old self.new) }
+    {
+        let told = handed_to(given, self.name.arrival)?;
+        self.note(entry, told, None)
+    }
+
+    /// Notes what the call waits for behind the entry at this place, by the state of this manager, where that is another thing
+    /// than before.
+    pub(crate) fn wait_for(
+        &mut self,
+        entry: u64,
+        wait: Option<Wait>,
+        manager: Option<Tenure>,
+    ) -> Result<(), WantMemory>
+        ensures steps { OnOk result ((news : List StepOf)
+            × IsNews entry self.old.wait wait manager news
             × (self.new.steps.items ≡ self.old.steps.items ++ news)) }
         ensures name { self.new.name ≡ self.old.name }
         ensures call { self.new.call ≡ self.old.call }
+        ensures adapter { self.new.adapter ≡ self.old.adapter }
         ensures wait { OnOk result (self.new.wait ≡ wait) }
     {
         if wait == self.wait {
@@ -61,7 +97,7 @@ impl Trail {
         }
         self.wait = wait;
         match wait {
-            Some(wait) => self.note(entry, Some(Event::Waits(wait))),
+            Some(wait) => self.note(entry, Some(Event::Waits(wait)), manager),
             None => Ok(()),
         }
     }

@@ -1,33 +1,38 @@
 //! The trails of the calls that are asked for.
 ghost use Rattle.std.specs.Prelude.{◌≡◌, OnOk};
 ghost use Rattle.std.specs.List.{AllZip};
-ghost use Rattle.journal_explain.specs.Watching.{Begins, Looks, Notes};
+ghost use Rattle.journal_explain.specs.Watching.{Begins, Gets, Looks, Notes};
 
+use crate::adapter::adapter_at;
 use crate::call_name::CallName;
 use crate::facing::wait_of;
+use crate::managers::Managers;
+use crate::ruling::{holder, ruler};
 use crate::selection::Selection;
 use crate::telling::event_of;
 use crate::trail::Trail;
+use core_outboxes::Filed;
 use core_run::Run;
 use poa_base::{Entry, TryClone, WantMemory};
 use std::alloc::Global;
 
-/// Begins the trail of the call that arrives with the entry at this place, as the one of this number, where it is asked for.
+/// Begins the trail of the call that arrives with the next entry of a run, at this place, where it is asked for.
 pub(crate) fn begin(
     alloc: Global,
     asked: &Selection,
-    arrivals: u64,
+    run: &Run,
     place: u64,
     entry: &Entry,
     trails: &mut Vec<Trail>,
 ) -> Result<(), WantMemory>
-    ensures { OnOk result (Begins asked.now arrivals place entry.now trails.old.items trails.new.items) }
+    ensures { OnOk result (Begins asked.now run.now place entry.now trails.old.items trails.new.items) }
 {
     if let Entry::Arrive { conn, call, .. } = entry {
-        let name = CallName::of(arrivals, *conn, call);
+        let name = CallName::of(run.arrivals(), *conn, call);
         if asked.asks(name, place) {
+            let adapter = adapter_at(alloc, run, call)?;
             let call = call.try_clone()?;
-            trails.push(Trail::new(alloc, name, call))?;
+            trails.push(Trail::new(alloc, name, call, adapter))?;
         }
     }
     Ok(())
@@ -39,12 +44,14 @@ pub(crate) fn note_each(
     run: &Run,
     entry: &Entry,
     place: u64,
+    managers: &Managers,
     trails: &mut Vec<Trail>,
 ) -> Result<(), WantMemory>
-    ensures { OnOk result (AllZip (Notes run.now entry.now place) trails.old.items trails.new.items) }
+    ensures { OnOk result
+        (AllZip (Notes run.now entry.now place managers.now) trails.old.items trails.new.items) }
 {
     for trail in trails.iter_mut() {
-        note(alloc, run, entry, place, trail)?;
+        note(alloc, run, entry, place, managers, trail)?;
     }
     Ok(())
 }
@@ -54,12 +61,29 @@ fn note(
     run: &Run,
     entry: &Entry,
     place: u64,
+    managers: &Managers,
     trail: &mut Trail,
 ) -> Result<(), WantMemory>
-    ensures { OnOk result (Notes run.now entry.now place trail.old trail.new) }
+    ensures { OnOk result (Notes run.now entry.now place managers.now trail.old trail.new) }
 {
     let told = event_of(alloc, run, entry, trail.name.arrival)?;
-    trail.note(place, told)
+    let manager = ruler(alloc, run, entry, trail.name.arrival)?;
+    let tenure = managers.told(run, manager)?;
+    trail.note(place, told, tenure)
+}
+
+/// Notes the reply that was collected with the entry at this place, if one was.
+pub(crate) fn give_each(
+    place: u64,
+    given: &Option<Filed>,
+    trails: &mut Vec<Trail>,
+) -> Result<(), WantMemory>
+    ensures { OnOk result (AllZip (Gets given.now place) trails.old.items trails.new.items) }
+{
+    for trail in trails.iter_mut() {
+        trail.get(place, given)?;
+    }
+    Ok(())
 }
 
 /// Notes what each call waits for in a run behind the entry at this place.
@@ -67,19 +91,28 @@ pub(crate) fn look_at_each(
     alloc: Global,
     run: &Run,
     place: u64,
+    managers: &Managers,
     trails: &mut Vec<Trail>,
 ) -> Result<(), WantMemory>
-    ensures { OnOk result (AllZip (Looks run.now place) trails.old.items trails.new.items) }
+    ensures { OnOk result
+        (AllZip (Looks run.now place managers.now) trails.old.items trails.new.items) }
 {
     for trail in trails.iter_mut() {
-        look(alloc, run, place, trail)?;
+        look(alloc, run, place, managers, trail)?;
     }
     Ok(())
 }
 
-fn look(alloc: Global, run: &Run, place: u64, trail: &mut Trail) -> Result<(), WantMemory>
-    ensures { OnOk result (Looks run.now place trail.old trail.new) }
+fn look(
+    alloc: Global,
+    run: &Run,
+    place: u64,
+    managers: &Managers,
+    trail: &mut Trail,
+) -> Result<(), WantMemory>
+    ensures { OnOk result (Looks run.now place managers.now trail.old trail.new) }
 {
     let wait = wait_of(alloc, run, trail.name.arrival)?;
-    trail.wait_for(place, wait)
+    let tenure = managers.told(run, holder(wait))?;
+    trail.wait_for(place, wait, tenure)
 }

@@ -1,25 +1,29 @@
 //! What is watched of calls.
-ghost use Rattle.std.specs.Prelude.{◌≡◌, [], OnOk};
+ghost use Rattle.std.specs.Prelude.{◌≡◌, [], IfOk, OnOk};
 ghost use Rattle.journal_explain.specs.Explaining.{HasWatched};
-ghost use Rattle.journal_explain.specs.Watching.{HasLooked, HasNoted};
+ghost use Rattle.journal_explain.specs.Watching.{HasGiven, HasLooked, HasNoted};
 
 use crate::came::{Came, note_came};
 use crate::doing::Doing;
+use crate::managers::Managers;
 use crate::object_trail::ObjectTrail;
 use crate::selection::Selection;
 use crate::trail::Trail;
-use crate::trails::{begin, look_at_each, note_each};
+use crate::trails::{begin, give_each, look_at_each, note_each};
+use core_outboxes::Filed;
 use core_run::Run;
 use poa_base::{Entry, WantMemory};
 use std::alloc::Global;
 
-/// What is watched of calls: what happens to those that are asked for by themselves, what stands of an object, and what came of
-/// all, where that is asked.
+/// What is watched of calls: what happens to those that are asked for by themselves, since when the managers are in their states,
+/// what stands of an object, and what came of all, where that is asked.
 #[derive(Drop)]
 pub struct Watch {
     pub asked: Selection,
     /// The calls that are asked for by themselves, in the order of their arriving.
     pub trails: Vec<Trail>,
+    /// Since when the managers are in their states.
+    pub managers: Managers,
     /// The object that is asked for.
     pub object: ObjectTrail,
     /// All calls, in the order of their arriving, where that is asked.
@@ -29,18 +33,19 @@ pub struct Watch {
 impl Watch {
     /// A watch of a run of which no entry has been seen.
     #[tactic(auto, using(crate::proofs::AtFirst::watched_first))]
-    pub(crate) fn new(alloc: Global, run: &Run, asked: Selection) -> Self
+    pub(crate) fn new(alloc: Global, run: &Run, asked: Selection) -> Result<Self, WantMemory>
         requires { run.now.history ≡ [] }
-        ensures asked { result.asked ≡ asked }
-        ensures watched { HasWatched run.now result }
+        ensures asked { IfOk result (λ watch. watch.asked ≡ asked) }
+        ensures watched { IfOk result (HasWatched run.now) }
     {
-        let object = ObjectTrail::new(alloc, run, &asked);
-        Watch {
+        let object = ObjectTrail::new(alloc, run, &asked)?;
+        Ok(Watch {
             asked,
             trails: Vec::new(alloc),
+            managers: Managers::new(alloc),
             object,
             came: Vec::new(alloc),
-        }
+        })
     }
 
     /// Notes what the next entry of a run, at this place, is to the calls.
@@ -53,19 +58,20 @@ impl Watch {
     ) -> Result<(), WantMemory>
         ensures { OnOk result (HasNoted run.now entry.now place self.old self.new) }
     {
-        begin(
-            alloc,
-            &self.asked,
-            run.arrivals(),
-            place,
-            entry,
-            &mut self.trails,
-        )?;
-        note_each(alloc, run, entry, place, &mut self.trails)?;
+        begin(alloc, &self.asked, run, place, entry, &mut self.trails)?;
+        note_each(alloc, run, entry, place, &self.managers, &mut self.trails)?;
+        self.managers.note(run, entry, place)?;
         if self.asked.is_all() {
             note_came(alloc, run, entry, place, &mut self.came)?;
         }
         Ok(())
+    }
+
+    /// Notes the reply that was collected with the entry at this place, if one was.
+    pub(crate) fn give(&mut self, place: u64, given: &Option<Filed>) -> Result<(), WantMemory>
+        ensures { OnOk result (HasGiven given.now place self.old self.new) }
+    {
+        give_each(place, given, &mut self.trails)
     }
 
     /// Notes what the calls wait for in a run behind the entry at this place, which does this, and what stands of the object.
@@ -78,7 +84,7 @@ impl Watch {
     ) -> Result<(), WantMemory>
         ensures { OnOk result (HasLooked run.now place doing self.old self.new) }
     {
-        look_at_each(alloc, run, place, &mut self.trails)?;
+        look_at_each(alloc, run, place, &self.managers, &mut self.trails)?;
         self.object.note(run, &self.asked, place, doing)
     }
 }

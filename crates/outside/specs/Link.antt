@@ -1,5 +1,5 @@
 -- What a link shows, and what a read and a write of it change.
-use Rattle.std.specs.Prelude.{◌≡◌, ℕ, ◌≤◌, List, [], ◌++◌, take, Option, IfSome}
+use Rattle.std.specs.Prelude.{◌≡◌, ℕ, ◌≤◌, Bool, true, List, [], ◌++◌, take, Option, IfSome}
 use Rattle.outside.specs.declared.reading.Took.{Took}
 use Rattle.outside.specs.declared.reading.Took.TheVariants.{Got, End, Quiet, Failed}
 use Rattle.outside.specs.declared.writing.Wrote.{Wrote}
@@ -37,3 +37,11 @@ IsRead Failed buf old new = Moves old new [] []
 abbrev pub IsWritten : Wrote → List ℕ → Shown → Shown → Type 0
 IsWritten (wrote.Wrote n) piece old new = Moves old new [] (take n piece)
 IsWritten wrote.Failed piece old new = Moves old new [] []
+
+-- the link took a front of the bytes, or all of them
+pub record Writes (bytes : List ℕ) (a b : Shown) (whole : Bool) : Type 0 where
+  pub done : List ℕ
+  pub rest : List ℕ
+  pub moved : Moves a b [] done
+  pub front : bytes ≡ done ++ rest
+  pub all : whole ≡ true → rest ≡ []

@@ -7,7 +7,7 @@ use Rattle.poa_base.specs.declared.SessionEnd.TheVariants.{Ended, Shut, ReadFaul
 use Rattle.poa_history.specs.Legal.{IsLegal}
 use Rattle.seat_lock.specs.declared.view.View.{View}
 use Rattle.outside.specs.Told.{IfTold}
-use Rattle.outside.specs.Link.{Shown, Moves}
+use Rattle.outside.specs.Link.{Shown, Moves, Writes}
 use Rattle.outside.proofs.Moving.{moves_none, moves_out}
 use Rattle.poa_history.specs.declared.Givens.{Givens}
 use Rattle.poa_history.specs.GivenRuns.{IsHistory}
@@ -23,7 +23,6 @@ use Rattle.poa_session.specs.Growing.{Adds}
 use Rattle.poa_session.specs.Served.{DriesUp}
 use Rattle.poa_session.specs.Paying.{BreaksOff}
 use Rattle.poa_session.specs.Settling.{Settled, Settles}
-use Rattle.poa_session.specs.Writing.{Writes}
 use Rattle.poa_session.proofs.Adding.{adds_same}
 
 -- a session that breaks off

@@ -6,7 +6,7 @@ use Rattle.poa_base.specs.declared.Entry.{Entry}
 use Rattle.poa_base.specs.declared.SessionEnd.{SessionEnd}
 use Rattle.poa_base.specs.declared.SessionEnd.TheVariants.{WantMemory, WriteFault}
 use Rattle.seat_lock.specs.declared.view.View.{View}
-use Rattle.outside.specs.Link.{Shown}
+use Rattle.outside.specs.Link.{Shown, Writes}
 use Rattle.poa_history.specs.declared.Givens.{Givens}
 use Rattle.poa_core.specs.declared.Collected.{Collected}
 use Rattle.poa_shared.specs.Seen.{Owns}
@@ -16,7 +16,6 @@ use Rattle.poa_session.specs.Exchanging.{Exchanges, Holds, IsHeard, IsStopped}
 use Rattle.poa_session.specs.Giving.{told_all}
 use Rattle.poa_session.specs.Rounding.{Rounds}
 use Rattle.poa_session.specs.Taking.{Takes}
-use Rattle.poa_session.specs.Writing.{Writes}
 use Rattle.poa_session.specs.declared.exchanged.Exchanged.{Exchanged}
 use Rattle.poa_session.specs.declared.flow.Flow.{Flow}
 use Rattle.poa_session.specs.declared.flow.Flow.TheVariants.{Broke, Ends, On}

@@ -2,7 +2,6 @@ pub mod Adding
 pub mod Calls
 pub mod Heard
 pub mod Collects
-pub mod Written
 pub mod Taken
 pub mod Owed
 pub mod Talking

@@ -6,7 +6,7 @@ use Rattle.poa_base.specs.declared.Entry.{Entry}
 use Rattle.poa_base.specs.declared.SessionEnd.{SessionEnd}
 use Rattle.poa_base.specs.declared.SessionEnd.TheVariants.{Ended, Shut, ReadFault, WriteFault, Malformed, Truncated, InputLimit, Limit, Abandoned, WantMemory}
 use Rattle.seat_lock.specs.declared.view.View.{View}
-use Rattle.outside.specs.Link.{Shown, Moves}
+use Rattle.outside.specs.Link.{Shown, Moves, Writes}
 use Rattle.outside.proofs.Moving.{moves_none, moves_out}
 use Rattle.poa_history.specs.declared.Givens.{Givens}
 use Rattle.poa_shared.specs.Seen.{Owns, past}
@@ -14,7 +14,6 @@ use Rattle.session_laws.specs.Records.{filling_by}
 use Rattle.poa_session.specs.Growing.{Adds}
 use Rattle.poa_session.specs.Paying.{BreaksOff, Gathers, Pays, PaysAll}
 use Rattle.poa_session.specs.Stopping.{Looks}
-use Rattle.poa_session.specs.Writing.{Writes}
 use Rattle.poa_session.proofs.Adding.{adds_both, adds_none, adds_same, found_filling}
 
 -- the replies that were gathered are written

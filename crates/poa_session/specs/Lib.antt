@@ -1,7 +1,6 @@
 pub mod Growing
 pub mod Saying
 pub mod Served
-pub mod Writing
 pub mod Stopping
 pub mod Listening
 pub mod Giving

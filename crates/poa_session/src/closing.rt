@@ -8,13 +8,12 @@ ghost use Rattle.poa_shared.specs.Seats.{IsIdle};
 ghost use Rattle.poa_shared.specs.Seen.{HoldsConnection};
 ghost use Rattle.poa_session.specs.Saying.{HasSaid};
 ghost use Rattle.poa_session.specs.Settling.{Settles};
-ghost use Rattle.poa_session.specs.Writing.{Writes};
+ghost use Rattle.outside.specs.Link.{Writes};
 
 use crate::connection::Connection;
 use crate::paying::pay;
-use crate::writing::write_all;
 use giop_answer::{write_closing, write_error};
-use outside::Link;
+use outside::{Link, write_all};
 use poa_base::SessionEnd;
 use poa_shared::Seat;
 use session_laws::{Input, Peer};

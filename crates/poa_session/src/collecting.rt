@@ -10,8 +10,7 @@ ghost use Rattle.poa_session.specs.Paying.{Pays};
 ghost use Rattle.poa_session.specs.Saying.{HasSaid, IsGiven};
 
 use crate::replies::Replies;
-use crate::writing::write_all;
-use outside::Link;
+use outside::{Link, write_all};
 use poa_base::{SessionEnd, WantMemory};
 use poa_core::Collected;
 use poa_shared::{Front, Seat, Shared};

@@ -18,6 +18,5 @@ mod replies;
 mod rounds;
 mod serving;
 mod taking_in;
-mod writing;
 
 pub use serving::{serve_admin, serve_link};

@@ -18,13 +18,11 @@ use giop_answer::{write_closing, write_error};
 use giop_frame::{Framer, Message, Next};
 use giop_msg::{Incoming, MsgFault, read_call};
 use outside::Sink;
+use poa_base::limits::MESSAGE_LIMIT;
 use poa_base::{Call, WantMemory};
 use poa_core::ArriveFault;
 use poad_files::deliver;
 use std::alloc::Global;
-
-/// The largest size that a message may have, without its header.
-const MESSAGE_LIMIT: u32 = 1_048_576;
 
 /// What serves a stream of messages: the framer of the stream, who answers its calls, and the replies that aren't
 /// written yet.

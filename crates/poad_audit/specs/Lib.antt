@@ -3,6 +3,9 @@ pub mod Auditing
 pub mod Linking
 pub mod Calls
 pub mod Verdicts
+pub mod Replies
+pub mod Managers
+pub mod Adapters
 pub mod Story
 pub mod Table
 pub mod Objects

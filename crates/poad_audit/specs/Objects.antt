@@ -1,10 +1,12 @@
 -- What is printed of an object.
 use Rattle.std.specs.Prelude.{ℕ, List, [], ◌∷◌, ◌++◌, codes, decimal, Option, Some, None}
 use Rattle.poa_base.specs.declared.Command.{Command}
+use Rattle.poa_base.specs.declared.State.{State}
 use Rattle.poa_choose.specs.declared.MapFact.{MapFact}
 use Rattle.poa_choose.specs.declared.MapFact.TheVariants as slot
 use Rattle.text_words.specs.Token.{identity, path, spelled, tails}
 use Rattle.admin_line.specs.Command.{command_tokens}
+use Rattle.poa_journal.specs.Row.{row_tokens}
 use Rattle.journal_explain.specs.declared.Change.{Change}
 use Rattle.journal_explain.specs.declared.Doing.{Doing}
 use Rattle.journal_explain.specs.declared.Doing.TheVariants.{Admits, Incarnates, Ends, TakesOut, Etherealizes, Other}
@@ -46,9 +48,26 @@ why_text (TakesOut n) command = codes ": a worker takes it out"
 why_text Etherealizes command = codes ": its servant was etherealized"
 why_text Other command = []
 
+-- what is stored for it, by the line that a state file has for it
+abbrev pub stored_line : List ℕ → List (List ℕ) → List ℕ → Option State → List ℕ
+stored_line front names id None = []
+stored_line front names id (Some state) = front ++ (spelled (row_tokens ((names, id), state)) ++ codes "\n")
+
+-- with the entry at this place
+abbrev pub entry_head : ℕ → List ℕ
+entry_head place = codes "entry " ++ (decimal place ++ codes " ")
+
 abbrev pub change_line : Change → List ℕ
-change_line c = codes "entry " ++ (decimal c.entry ++ (codes " " ++ (moment_text c.moment ++ (why_text c.doing c.command ++ codes "\n"))))
+change_line c = entry_head c.entry ++ (moment_text c.moment ++ (why_text c.doing c.command ++ codes "\n"))
+
+abbrev pub change_text : List (List ℕ) → List ℕ → Change → List ℕ
+change_text names id c = change_line c ++ stored_line (entry_head c.entry) names id c.stored
+
+-- what there was of it at first, and what its activations came to
+abbrev pub trail_text : List (List ℕ) → List ℕ → ObjectTrail → List ℕ
+trail_text names id o =
+    stored_line (codes "at first ") names id o.stored
+    ++ (first_line o.opens o.changes.items ++ lines_by (change_text names id) o.changes.items)
 
 abbrev pub object_text : ℕ → List (List ℕ) → List ℕ → ObjectTrail → List ℕ
-object_text line names id o =
-    head_line names id line ++ (first_line o.opens o.changes.items ++ lines_by change_line o.changes.items)
+object_text line names id o = head_line names id line ++ trail_text names id o

@@ -60,7 +60,7 @@ phase_by asks before (event.Tried answer) = tried asks answer
 phase_by asks before (event.Incarnated b) = brought asks b
 phase_by asks before event.Ran = phase.Running
 phase_by asks before event.Ended = done asks before
-phase_by asks before event.Collected = taken before
+phase_by asks before (event.Collected reply) = taken before
 
 -- the activation that a verdict names
 abbrev pub activation_of : Verdict → Option ℕ

@@ -11,10 +11,14 @@ use Rattle.journal_explain.specs.declared.Event.TheVariants as event
 use Rattle.journal_explain.specs.declared.Row.{Row}
 use Rattle.journal_explain.specs.declared.Row.TheVariants as row
 use Rattle.journal_explain.specs.declared.Step.{Step}
+use Rattle.journal_explain.specs.declared.Tenure.{Tenure}
 use Rattle.journal_explain.specs.declared.Trail.{Trail}
 use Rattle.journal_explain.specs.declared.Wait.{Wait}
 use Rattle.journal_explain.specs.declared.Wait.TheVariants.{Worker, Held}
+use Rattle.poad_audit.specs.Adapters.{adapter_text}
 use Rattle.poad_audit.specs.Calls.{call_text}
+use Rattle.poad_audit.specs.Managers.{held_since, ruler_text}
+use Rattle.poad_audit.specs.Replies.{collected_text}
 use Rattle.poad_audit.specs.Verdicts.{verdict_text}
 
 abbrev pub row_text : Row → List ℕ
@@ -63,6 +67,10 @@ abbrev pub wait_text : Wait → List ℕ
 wait_text Worker = codes "waits for a worker"
 wait_text (Held h) = hold_text h
 
+-- and since when the manager that holds it does so
+abbrev pub waits_text : Wait → Option Tenure → List ℕ
+waits_text wait manager = wait_text wait ++ held_since manager
+
 abbrev pub attempt_text : Attempt → List ℕ
 attempt_text (attempt.Yes n) = codes "the adapter activator made adapter " ++ decimal n
 attempt_text attempt.No = codes "the adapter activator made none"
@@ -77,28 +85,30 @@ brought_text false = codes "the servant activator brought none"
 abbrev pub admitted_head : ℕ → List ℕ
 admitted_head w = codes "admitted by worker " ++ (decimal w ++ codes ": ")
 
-abbrev pub admitted_text : ℕ → Option Row → Verdict → List ℕ
-admitted_text w row verdict = admitted_head w ++ (reason_text row ++ (codes "; " ++ verdict_text verdict))
+abbrev pub admitted_text : ℕ → Option Row → Option Tenure → Verdict → List ℕ
+admitted_text w row manager verdict =
+    admitted_head w ++ (reason_text row ++ (ruler_text manager ++ (codes "; " ++ verdict_text verdict)))
 
-abbrev pub event_text : Event → List ℕ
-event_text event.Arrived = codes "arrived"
-event_text (event.Waits wait) = wait_text wait
-event_text (event.Admitted w row verdict) = admitted_text w row verdict
-event_text (event.Tried answer) = attempt_text answer
-event_text (event.Incarnated brought) = brought_text brought
-event_text event.Ran = codes "its servant ran"
-event_text event.Ended = codes "the request ended"
-event_text event.Collected = codes "its reply was taken for writing"
+-- by the state of this manager
+abbrev pub event_text : Event → Option Tenure → List ℕ
+event_text event.Arrived manager = codes "arrived"
+event_text (event.Waits wait) manager = waits_text wait manager
+event_text (event.Admitted w row verdict) manager = admitted_text w row manager verdict
+event_text (event.Tried answer) manager = attempt_text answer
+event_text (event.Incarnated brought) manager = brought_text brought
+event_text event.Ran manager = codes "its servant ran"
+event_text event.Ended manager = codes "the request ended"
+event_text (event.Collected reply) manager = collected_text reply
 
 abbrev pub step_line : Step → List ℕ
-step_line s = codes "entry " ++ (decimal s.entry ++ (codes " " ++ (event_text s.event ++ codes "\n")))
+step_line s = codes "entry " ++ (decimal s.entry ++ (codes " " ++ (event_text s.event s.manager ++ codes "\n")))
 
 -- the text of each, one behind the other
 abbrev pub lines_by : {A : Type 0} → (A → List ℕ) → List A → List ℕ
 lines_by text [] = []
 lines_by text (x ∷ more) = text x ++ lines_by text more
 
--- the call, the line of the journal's entry 0, what the call asks, and what happened to it with each entry
+-- the call, the line of the journal's entry 0, what the call asks, its adapter, and what happened to the call with each entry
 abbrev pub head_by : Option ℕ → ℕ → ℕ → ℕ → List ℕ
 head_by (Some id) r conn line = codes "call " ++ (decimal r ++ (codes ", id " ++ (decimal id ++ (codes " of connection " ++ (decimal conn
     ++ (codes ", entry 0 in line " ++ (decimal line ++ codes "\n")))))))
@@ -109,7 +119,8 @@ abbrev pub head_line : CallName → ℕ → List ℕ
 head_line name line = head_by name.id name.arrival name.conn line
 
 abbrev pub story_text : ℕ → Trail → List ℕ
-story_text line t = head_line t.name line ++ (call_text t.call ++ lines_by step_line t.steps.items)
+story_text line t =
+    head_line t.name line ++ (call_text t.call ++ (adapter_text t.adapter ++ lines_by step_line t.steps.items))
 
 -- each call that is asked for
 abbrev pub calls_text : ℕ → List Trail → List ℕ

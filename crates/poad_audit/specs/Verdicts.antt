@@ -11,8 +11,11 @@ use Rattle.admin_line.specs.Answer.{answer_tokens}
 use Rattle.poa_journal.specs.ValueWords.{exception_word}
 
 -- the exception's standard name, and its minor code in eight hexadecimal digits
+abbrev pub exception_text : SysExc → List ℕ
+exception_text e = exception_word e.name ++ (codes " minor" ++ tails (minor e.minor ∷ []))
+
 abbrev pub refused_text : SysExc → List ℕ
-refused_text e = codes "refused: " ++ (exception_word e.name ++ (codes " minor" ++ tails (minor e.minor ∷ [])))
+refused_text e = codes "refused: " ++ exception_text e
 
 abbrev pub forwarded_text : Endpoint → List ℕ
 forwarded_text endpoint = codes "forwarded to" ++ tails (endpoint_tokens endpoint)

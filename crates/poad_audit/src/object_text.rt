@@ -3,6 +3,7 @@ ghost use Rattle.std.specs.Prelude.{◌≡◌, ◌++◌, IfOk, OnOk, Some, optio
 ghost use Rattle.poad_audit.specs.Objects as printed;
 ghost use Rattle.poad_audit.specs.Story.{lines_by};
 
+use crate::stored_text::put_stored;
 use crate::verdict_text::fixed;
 use admin_line::command_text;
 use journal_explain::{Change, Doing, Moment, ObjectTrail};
@@ -22,10 +23,25 @@ pub(crate) fn object_text(
     ensures { IfOk result (λ text. text ≡ printed.object_text line path.now oid.now object.now) }
 {
     let mut out = head_line(alloc, path, oid, line)?;
+    put_trail(alloc, &mut out, path, oid, object)?;
+    Ok(Bytes::from_vec(out))
+}
+
+/// Adds what there was of it at first, and what its activations came to.
+fn put_trail(
+    alloc: Global,
+    out: &mut Vec<u8>,
+    path: &Path,
+    oid: &Oid,
+    object: &ObjectTrail,
+) -> Result<(), WantMemory>
+    ensures { OnOk result (out.new.items
+        ≡ out.old.items ++ printed.trail_text path.now oid.now object.now) }
+{
+    put_stored(out, b"at first ", path, oid, object.stored.as_ref())?;
     let first = first_line(alloc, object.opens, object.changes.as_slice())?;
     out.extend_from_slice(first.as_slice())?;
-    put_changes(alloc, &mut out, object.changes.as_slice())?;
-    Ok(Bytes::from_vec(out))
+    put_changes(alloc, out, path, oid, object.changes.as_slice())
 }
 
 fn head_line(alloc: Global, path: &Path, oid: &Oid, line: u64) -> Result<Vec<u8>, WantMemory>
@@ -60,28 +76,50 @@ fn first_line(alloc: Global, opens: MapFact, changes: &[Change]) -> Result<Bytes
 }
 
 /// Adds the lines of the changes.
-fn put_changes(alloc: Global, out: &mut Vec<u8>, changes: &[Change]) -> Result<(), WantMemory>
-    ensures { OnOk result (out.new.items ≡ out.old.items ++ lines_by printed.change_line changes.now) }
+fn put_changes(
+    alloc: Global,
+    out: &mut Vec<u8>,
+    path: &Path,
+    oid: &Oid,
+    changes: &[Change],
+) -> Result<(), WantMemory>
+    ensures { OnOk result (out.new.items
+        ≡ out.old.items ++ lines_by (printed.change_text path.now oid.now) changes.now) }
 {
     for change in changes {
-        let line = change_line(alloc, change)?;
-        out.extend_from_slice(line.as_slice())?;
+        let text = change_text(alloc, path, oid, change)?;
+        out.extend_from_slice(text.as_slice())?;
     }
     Ok(())
 }
 
-fn change_line(alloc: Global, change: &Change) -> Result<Bytes, WantMemory>
-    ensures { IfOk result (λ line. line ≡ printed.change_line change.now) }
+/// The line of a change, and that of what is stored behind it.
+fn change_text(alloc: Global, path: &Path, oid: &Oid, change: &Change) -> Result<Bytes, WantMemory>
+    ensures { IfOk result (λ text. text ≡ printed.change_text path.now oid.now change.now) }
 {
-    let entry = change.entry;
+    let mut out = change_line(alloc, change)?;
+    let head = entry_head(alloc, change.entry)?;
+    put_stored(&mut out, head.as_slice(), path, oid, change.stored.as_ref())?;
+    Ok(Bytes::from_vec(out))
+}
+
+fn change_line(alloc: Global, change: &Change) -> Result<Vec<u8>, WantMemory>
+    ensures { IfOk result (λ out. out.items ≡ printed.change_line change.now) }
+{
     let moment = moment_text(alloc, change.moment)?;
     let why = why_text(alloc, change.doing, change.command.as_ref())?;
-    let head = format!(in alloc; "entry {entry} ")?;
-    let mut out = head.into_bytes();
+    let mut out = entry_head(alloc, change.entry)?;
     out.extend_from_slice(moment.as_slice())?;
     out.extend_from_slice(why.as_slice())?;
     out.extend_from_slice(b"\n")?;
-    Ok(Bytes::from_vec(out))
+    Ok(out)
+}
+
+fn entry_head(alloc: Global, entry: u64) -> Result<Vec<u8>, WantMemory>
+    ensures { IfOk result (λ out. out.items ≡ printed.entry_head entry) }
+{
+    let head = format!(in alloc; "entry {entry} ")?;
+    Ok(head.into_bytes())
 }
 
 fn moment_text(alloc: Global, moment: Moment) -> Result<Bytes, WantMemory>

@@ -1,12 +1,15 @@
 //! What is printed of calls.
-ghost use Rattle.std.specs.Prelude.{◌≡◌, IfOk, ◌++◌, OnOk, string_bytes};
+ghost use Rattle.std.specs.Prelude.{◌≡◌, IfOk, ◌++◌, OnOk, option_copied, string_bytes};
 ghost use Rattle.poad_audit.specs.Story as printed;
 
+use crate::adapter_text::put_adapter;
 use crate::call_text::put_call;
+use crate::manager_text::{held_since, ruler_text};
+use crate::reply_text::collected_text;
 use crate::row_text::reason_text;
 use crate::verdict_text::{fixed, verdict_text};
 use held_queue::Hold;
-use journal_explain::{CallName, Event, Row, Step, Trail, Wait};
+use journal_explain::{CallName, Event, Row, Step, Tenure, Trail, Wait};
 use poa_base::{Attempt, Bytes, Verdict, WantMemory};
 use std::alloc::Global;
 
@@ -44,6 +47,7 @@ fn story_text(alloc: Global, line: u64, trail: &Trail) -> Result<Bytes, WantMemo
     let head = head_line(alloc, trail.name, line)?;
     let mut out = head.into_bytes();
     put_call(alloc, &mut out, &trail.call)?;
+    put_adapter(alloc, &mut out, trail.adapter.as_ref())?;
     put_steps(alloc, &mut out, trail.steps.as_slice())?;
     Ok(Bytes::from_vec(out))
 }
@@ -77,7 +81,7 @@ fn step_line(alloc: Global, step: &Step) -> Result<Bytes, WantMemory>
     ensures { IfOk result (λ line. line ≡ printed.step_line step.now) }
 {
     let entry = step.entry;
-    let text = event_text(alloc, &step.event)?;
+    let text = event_text(alloc, &step.event, step.manager.as_ref())?;
     let head = format!(in alloc; "entry {entry} ")?;
     let mut out = head.into_bytes();
     out.extend_from_slice(text.as_slice())?;
@@ -85,22 +89,22 @@ fn step_line(alloc: Global, step: &Step) -> Result<Bytes, WantMemory>
     Ok(Bytes::from_vec(out))
 }
 
-fn event_text(alloc: Global, event: &Event) -> Result<Bytes, WantMemory>
-    ensures { IfOk result (λ text. text ≡ printed.event_text event.now) }
+fn event_text(alloc: Global, event: &Event, manager: Option<&Tenure>) -> Result<Bytes, WantMemory>
+    ensures { IfOk result (λ text. text ≡ printed.event_text event.now (option_copied manager.entry)) }
 {
     match event {
         Event::Arrived => fixed(alloc, "arrived"),
-        Event::Waits(wait) => wait_text(alloc, *wait),
+        Event::Waits(wait) => waits_text(alloc, *wait, manager),
         Event::Admitted {
             worker,
             row,
             verdict,
-        } => admitted_text(alloc, *worker, *row, verdict),
+        } => admitted_text(alloc, *worker, *row, manager, verdict),
         Event::Tried(answer) => attempt_text(alloc, *answer),
         Event::Incarnated { brought } => fixed(alloc, brought_text(*brought)),
         Event::Ran => fixed(alloc, "its servant ran"),
         Event::Ended => fixed(alloc, "the request ended"),
-        Event::Collected => fixed(alloc, "its reply was taken for writing"),
+        Event::Collected(reply) => collected_text(alloc, reply),
     }
 }
 
@@ -118,14 +122,18 @@ fn admitted_text(
     alloc: Global,
     worker: u32,
     row: Option<Row>,
+    manager: Option<&Tenure>,
     verdict: &Verdict,
 ) -> Result<Bytes, WantMemory>
-    ensures { IfOk result (λ text. text ≡ printed.admitted_text worker row verdict.now) }
+    ensures { IfOk result (λ text. text
+        ≡ printed.admitted_text worker row (option_copied manager.entry) verdict.now) }
 {
     let reason = fixed(alloc, reason_text(row))?;
+    let ruler = ruler_text(alloc, manager)?;
     let decided = verdict_text(alloc, verdict)?;
     let mut out = admitted_head(alloc, worker)?;
     out.extend_from_slice(reason.as_slice())?;
+    out.extend_from_slice(ruler.as_slice())?;
     out.extend_from_slice(b"; ")?;
     out.extend_from_slice(decided.as_slice())?;
     Ok(Bytes::from_vec(out))
@@ -136,6 +144,18 @@ fn admitted_head(alloc: Global, worker: u32) -> Result<Vec<u8>, WantMemory>
 {
     let head = format!(in alloc; "admitted by worker {worker}: ")?;
     Ok(head.into_bytes())
+}
+
+/// What a call waits for, and since when the manager that holds it does so.
+fn waits_text(alloc: Global, wait: Wait, manager: Option<&Tenure>) -> Result<Bytes, WantMemory>
+    ensures { IfOk result (λ text. text ≡ printed.waits_text wait (option_copied manager.entry)) }
+{
+    let held = wait_text(alloc, wait)?;
+    let since = held_since(alloc, manager)?;
+    let mut out = Vec::new(alloc);
+    out.extend_from_slice(held.as_slice())?;
+    out.extend_from_slice(since.as_slice())?;
+    Ok(Bytes::from_vec(out))
 }
 
 fn wait_text(alloc: Global, wait: Wait) -> Result<Bytes, WantMemory>

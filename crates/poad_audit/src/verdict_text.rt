@@ -53,8 +53,18 @@ fn named(alloc: Global, front: &str, name: &Name) -> Result<Bytes, WantMemory>
 fn refused_text(alloc: Global, exception: SysExc) -> Result<Bytes, WantMemory>
     ensures { IfOk result (λ text. text ≡ printed.refused_text exception) }
 {
+    let name = exception_text(alloc, exception)?;
+    let mut out = Vec::from_slice(alloc, b"refused: ")?;
+    out.extend_from_slice(name.as_slice())?;
+    Ok(Bytes::from_vec(out))
+}
+
+/// The standard name of an exception with its minor code.
+pub(crate) fn exception_text(alloc: Global, exception: SysExc) -> Result<Bytes, WantMemory>
+    ensures { IfOk result (λ text. text ≡ printed.exception_text exception) }
+{
     let name = name_of(exception.name);
-    let head = format!(in alloc; "refused: {name} minor")?;
+    let head = format!(in alloc; "{name} minor")?;
     let mut out = head.into_bytes();
     put_minor(&mut out, exception.minor)?;
     Ok(Bytes::from_vec(out))
@@ -75,7 +85,7 @@ fn name_of(name: ExcName) -> &'static str
     }
 }
 
-fn forwarded_text(alloc: Global, endpoint: &Endpoint) -> Result<Bytes, WantMemory>
+pub(crate) fn forwarded_text(alloc: Global, endpoint: &Endpoint) -> Result<Bytes, WantMemory>
     ensures { IfOk result (λ text. text ≡ printed.forwarded_text endpoint.now) }
 {
     let mut out = Vec::from_slice(alloc, b"forwarded to")?;
@@ -83,7 +93,7 @@ fn forwarded_text(alloc: Global, endpoint: &Endpoint) -> Result<Bytes, WantMemor
     Ok(Bytes::from_vec(out))
 }
 
-fn answered_text(alloc: Global, answer: &Answer) -> Result<Bytes, WantMemory>
+pub(crate) fn answered_text(alloc: Global, answer: &Answer) -> Result<Bytes, WantMemory>
     ensures { IfOk result (λ text. text ≡ printed.answered_text answer.now) }
 {
     let mut out = Vec::from_slice(alloc, b"answered")?;

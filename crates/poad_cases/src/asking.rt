@@ -19,6 +19,7 @@ impl Case {
             [b"fails", kind, calls @ ..] => self.add_failures(kind, calls)?,
             [b"holds", length] => self.held_for = Some(number(length)? as usize),
             [b"takes", count] => self.limit = Some(number(count)?),
+            [b"keep", name] => self.kept = texts(self.alloc, &[*name])?.pop(),
             [
                 b"together" | b"store" | b"content" | b"order" | b"entries",
                 ..

@@ -33,6 +33,8 @@ pub struct Case {
     pub is_together: bool,
     /// How many calls the run of a script takes, where that isn't the most.
     pub limit: Option<u64>,
+    /// The name under which the journal is kept that a script prints; what the command writes isn't printed then.
+    pub kept: Option<String>,
     /// The kinds of entries whose numbers are printed, or none of them for all kinds.
     pub counted: Option<Vec<String>>,
     /// The kinds of entries whose order is printed.
@@ -61,6 +63,7 @@ impl Case {
             held_for: None,
             is_together: false,
             limit: None,
+            kept: None,
             counted: None,
             ordered: Vec::new(alloc),
             has_store: false,

@@ -18,6 +18,8 @@
 //! - `fails KIND N ..`: these calls fail, counted from 0; `N..M` is each from N on below M. `read` and `write` are of the
 //!   link or of standard input and output, `next` of the door, `take` and `put` of the files, `start` of the threads; `quiet`
 //!   are reads of the link that find nothing for now;
+//! - `keep NAME`: the journal that the script of `replay` prints is the file of this name from then on, and what it printed isn't
+//!   printed;
 //! - `takes COUNT`, how many calls the run of a script takes: `replay` then plays it on such a run;
 //! - `holds LENGTH`: the first worker that serves is held until so many bytes were written to a link;
 //! - `due WORD ..`, where it isn't determined what is written to the link: one of the lines `due`, or a beginning of it where
@@ -69,8 +71,9 @@ mod written;
 
 use anyhow::{Context, Result};
 use calling::call;
+use case::Case;
 use command::command;
-use files::File;
+use files::printed_journal;
 pub use report::Report;
 use serving::serve;
 pub use session_judging::{Judgement, judge};
@@ -106,18 +109,18 @@ where
         let number = place.saturating_add(1);
         let ready = table.line(line).context(format_args!("line {number}"))?;
         if let Some(ready) = ready {
-            play_case(rt, alloc, &ready, table.files(), report)?;
+            play_case(rt, alloc, &ready, table, report)?;
         }
     }
     Ok(())
 }
 
-/// Runs a case over these files, and prints what came of it.
+/// Runs a case over the files of a table, and prints what came of it.
 fn play_case<R>(
     rt: &R,
     alloc: Global,
     ready: &Ready,
-    files: &[File],
+    table: &mut Table,
     report: &mut Report,
 ) -> Result<()>
 where
@@ -128,13 +131,22 @@ where
             let called = call(alloc, case)?;
             report.put_call(case, &called)
         }
-        Ready::Command(case) => {
-            let done = command(alloc, case, files)?;
-            report.put_command(case, &done)
-        }
+        Ready::Command(case) => play_command(alloc, case, table, report),
         Ready::Server(case) => {
-            let ran = serve(rt, alloc, case, files)?;
+            let ran = serve(rt, alloc, case, table.files())?;
             report.put_server(case, &ran)
         }
+    }
+}
+
+/// Does the command of a case, and prints what came of it, or keeps the journal that it printed.
+fn play_command(alloc: Global, case: &Case, table: &mut Table, report: &mut Report) -> Result<()> {
+    let done = command(alloc, case, table.files())?;
+    match &case.kept {
+        Some(name) => {
+            table.hold(name, printed_journal(alloc, &done.written)?)?;
+            report.put_kept(case, &done)
+        }
+        None => report.put_command(case, &done),
     }
 }

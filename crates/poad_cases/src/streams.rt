@@ -22,6 +22,12 @@ impl Report {
         self.put_status(&done.status)
     }
 
+    /// Prints how a command ended of which something is kept.
+    pub fn put_kept(&mut self, case: &Case, done: &Done) -> Result<()> {
+        self.put_line(&case.title)?;
+        self.put_status(&done.status)
+    }
+
     /// Prints the messages of these bytes, a line each, and what is left as one.
     fn put_each(&mut self, bytes: &[u8]) -> Result<()> {
         let mut rest = bytes;

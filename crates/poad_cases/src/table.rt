@@ -39,6 +39,13 @@ impl Table {
         self.files.as_slice()
     }
 
+    /// There is a file with this content, too.
+    pub fn hold(&mut self, name: &str, content: Vec<u8>) -> Result<()> {
+        self.files
+            .push((String::from_str(self.alloc, name)?, content))?;
+        Ok(())
+    }
+
     /// Reads a line. Gives the case that is to be run now.
     pub fn line(&mut self, line: &[u8]) -> Result<Option<Ready>> {
         if let Some(content) = line.strip_prefix(b"  ".as_slice()) {

@@ -292,7 +292,8 @@ module _ (c : Config) (limit : ℕ) (which : Selection) (text : List ℕ) (legal
       let read : OkResult explains.journal ≡ OkResult legal.journal = sym explains.reads ∙ legal.reads in
       let same : explains.journal ≡ legal.journal = cc in
       let bad : IsRefused c explains.journal.run limit explains.journal.entries r =
-      subst (λ (f : Option Refusal). TellsWhereLegal c explains.journal.run limit explains.journal.entries f x.watch) is explains.tells in
+      subst (λ (f : Option Refusal). TellsWhereLegal c explains.journal.run limit (stored explains.opening) explains.journal.entries f x.watch) is
+      explains.tells in
       spoiled c explains.journal.run limit explains.journal.entries r.entry r.rule bad.first
       (subst (λ (j : JournalContents). IsLegal c j.run limit (reverse j.entries)) (sym same) legal.legal)
 

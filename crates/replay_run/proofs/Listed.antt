@@ -8,7 +8,7 @@ use Rattle.replay_script.specs.declared.ScriptStep.{ScriptStep}
 use Rattle.replay_run.specs.declared.channel.Channel.{Channel}
 use Rattle.replay_run.specs.declared.player.Player.{Player}
 use Rattle.replay_run.specs.Playing.{AreFresh, IsFresh, CollectsEach, CollectsOf, Plays, PlaysAll}
-use Rattle.replay_run.specs.Keeping.{AllEntered, IsNew, IsCounted, Shows, world}
+use Rattle.replay_run.specs.Keeping.{AllEntered, Shows, world}
 use Rattle.replay_run.specs.Effects.{Works}
 use Rattle.replay_run.proofs.Same.{Still}
 use Rattle.replay_run.proofs.PlayedOnward.{works_join}
@@ -23,18 +23,13 @@ fresh_more [] (c ∷ cs) name channel all is = absurd all
 fresh_more (n ∷ ns) [] name channel all is = absurd all
 fresh_more (n ∷ ns) (c ∷ cs) name channel all is = (all.0, fresh_more ns cs name channel all.1 is)
 
-pushed_by : (xs : List Channel) (x : Channel) (i : ℕ) (a : Channel) → slice_get (xs ++ x ∷ []) i ≡ Some a → (slice_get xs i ≡ Some a) ⊎ (a ≡ x)
-pushed_by [] x zero a is = inr (let e : Some x ≡ Some a = is in cc)
-pushed_by [] x (suc i) a is = absurd (let e : None ≡ Some a = is in cc)
-pushed_by (y ∷ ys) x zero a is = inl is
-pushed_by (y ∷ ys) x (suc i) a is = pushed_by ys x i a is
-
-pub new_more : (channels : List Channel) (channel : Channel) → IsNew channels → channel.number ≡ None → IsCounted channel → IsNew (channels ++ channel ∷ [])
-new_more channels channel all none counted i a is =
-    elim (pushed_by channels channel i a is) [
-      | inl before ↦ all i a before
-      | inr same ↦ subst (λ (c : Channel). (c.number ≡ None) × IsCounted c) (sym same) (none, counted)
-    ]
+-- none of them has entered
+pub fresh_none : (names : List (List ℕ)) (channels : List Channel) → AreFresh names channels → (i : ℕ) (a : Channel) → slice_get channels i ≡ Some a
+    → a.number ≡ None
+fresh_none names [] all i a is = absurd (let e : None ≡ Some a = is in cc)
+fresh_none [] (c ∷ cs) all i a is = absurd all
+fresh_none (n ∷ ns) (c ∷ cs) all zero a is = (let same : c ≡ a = (let e : Some c ≡ Some a = is in cc) in subst (λ (x : Channel). x.number ≡ None) same all.0.number)
+fresh_none (n ∷ ns) (c ∷ cs) all (suc i) a is = fresh_none ns cs all.1 i a is
 
 -- what is done with a list from the place i on, behind what was done before it
 abbrev pub Ahead : {S A : Type 0} → (List A → S → List ℕ → S → Type 0) → List A → ℕ → S → List ℕ → S → Type 0

@@ -1,4 +1,4 @@
--- The messages of a connection, as the player reads them.
+-- What is heard over a connection, as the player reads it.
 use Rattle.std.proofs.Common.{◌≡◌, ℕ, ◌+◌, length, Bool, true, false, ◌||◌, not, option_map, List, [], ◌++◌, refl, sym, ap, ◌∙◌, subst, append-nil}
 use Rattle.replay_run.specs.declared.channel.Channel.{Channel}
 use Rattle.replay_run.specs.declared.player.Player.{Player}
@@ -7,45 +7,29 @@ use Rattle.poa_base.specs.declared.Call.TheVariants.{Line}
 use Rattle.poa_base.specs.declared.Command.{Command}
 use Rattle.admin_line.specs.Reading.{command_of_line}
 use Rattle.poa_history.specs.Life.{Life}
+use Rattle.session_laws.specs.HearingPieces.{Intake}
+use Rattle.session_laws.specs.declared.told.Told.TheVariants as told
 use Rattle.replay_run.specs.World.{Talk}
 use Rattle.replay_run.specs.Working.{Either, Stays}
-use Rattle.giop_frame.specs.declared.Next.TheVariants as next
-use Rattle.giop_frame.specs.declared.Why.{Why}
-use Rattle.giop_frame.specs.Framer.{FramerAnswers}
-use Rattle.giop_frame.specs.Framing.{Framing}
-use Rattle.giop_frame.specs.Stream.{Framed}
 use Rattle.poa_core.specs.Answers.{filled_at}
 use Rattle.replay_run.specs.Lines.{bad_line}
 use Rattle.replay_run.specs.Effects.{numbers, KnowsFilled}
-use Rattle.replay_run.specs.Reading.{ReadsOn, waits, fails, stops, reads_on, Handles, ReadsBytes, Feeds, with_fed}
+use Rattle.replay_run.specs.Reading.{ReadsOn, waits, closes, fails, skips, comes, Feeds, Grows, Hears, ReadsBytes}
 use Rattle.replay_run.specs.Calling.{after_call, call_text}
 use Rattle.replay_run.specs.Talking.{Commands, TakesLine, is_sized}
-use Rattle.replay_run.specs.Keeping.{Tells, ReadsOne, ReadsNext, Puts, talk}
-use Rattle.replay_run.proofs.PlayedOnward.{Onward}
+use Rattle.replay_run.specs.Keeping.{Tells, ReadsNext, talk}
 
--- a message in front of others
-pub one_onward : (conn : ℕ) (a b : Player) (x y : Channel) → Tells (ReadsOne conn) a b x y → Tells (Onward (ReadsOn conn)) a b x y
-one_onward conn a b x y p = record {
+-- bytes that were taken in behind what came, and read
+pub feeds : (bytes : List ℕ) (conn : ℕ) (a b : Player) (x z : Channel) (input : Intake) → (x.dropped || x.ended) ≡ false → Grows x.input bytes input
+    → Tells (ReadsOn conn) a b (record x { input = input }) z → Tells (Feeds bytes conn) a b x z
+feeds bytes conn a b x z input is grows p = record {
   text = p.text;
   printed = p.printed;
-  does = λ more last r. reads_on (talk a x) (talk b y) last p.does.message p.does.stream p.text more p.does.comes p.does.handles p.does.goes_on r;
+  does = subst (λ (d : Bool). Either d Stays (ReadsBytes conn bytes) (talk a x) p.text (talk b z)) (sym is)
+      (record { input = input; grows = grows; reads = p.does });
   filled = p.filled;
   turned_away = p.turned_away;
 }
-
--- bytes that were put behind what was fed, and read
-pub feeds : (bytes : List ℕ) (conn : ℕ) (a b : Player) (x y z : Channel) → (x.dropped || x.ended) ≡ false → Puts bytes x y → Tells (ReadsOn conn) a b y z
-    → Tells (Feeds bytes conn) a b x z
-feeds bytes conn a b x y z is puts p =
-    let started : talk a y ≡ with_fed y.stream bytes (talk a x) = ap (λ (c : Channel). talk a c) puts.became in
-    record {
-      text = p.text;
-      printed = p.printed;
-      does = subst (λ (d : Bool). Either d Stays (ReadsBytes conn bytes) (talk a x) p.text (talk b z)) (sym is)
-          (record { stream = y.stream; grows = puts.grows; reads = subst (λ (t : Talk). ReadsOn conn t p.text (talk b z)) started p.does });
-      filled = p.filled;
-      turned_away = p.turned_away;
-    }
 
 -- nothing is read
 pub feeds_nothing : (bytes : List ℕ) (conn : ℕ) (a : Player) (x : Channel) → (x.dropped || x.ended) ≡ true → Tells (Feeds bytes conn) a a x x
@@ -86,49 +70,64 @@ commands_told words conn number command a b x open_ sized numbered read life pri
       turned_away = away;
     }
 
-module _ (conn : ℕ) (a b : Player) (x y : Channel) (stream : Framing) where
-  message_so : (m : Framed) → FramerAnswers x.stream (next.Message m) stream → (p : Tells (Handles conn m) a b (record x { stream = stream }) y) → (d : Bool)
-      → y.dropped ≡ d
-      → ReadsNext (not d) conn (talk a x) p.text (talk b y)
-  message_so m comes p true is = stops (talk a x) (talk b y) m stream p.text comes p.does is
-  message_so m comes p false is = record { message = m; stream = stream; comes = comes; handles = p.does; goes_on = is }
-
-  -- a message was read
-  pub message_next : (m : Framed) → FramerAnswers x.stream (next.Message m) stream → Tells (Handles conn m) a b (record x { stream = stream }) y
-      → Tells (ReadsNext (not y.dropped) conn) a b x y
-  message_next m comes p = record {
-    text = p.text;
-    printed = p.printed;
-    does = message_so m comes p y.dropped refl;
-    filled = p.filled;
-    turned_away = p.turned_away;
+module _ (conn : ℕ) (a : Player) (x : Channel) (input : Intake) where
+  -- a call came
+  pub call_next : (call : Call) (size : ℕ) (b : Player) (name : List ℕ) → Hears (talk a x) (told.Call call size) input → name ≡ x.name
+      → b.core ≡ after_call conn call size a.core → b.printed.items ≡ a.printed.items ++ call_text name call size a.core
+      → (KnowsFilled a → KnowsFilled b) → b.turned_away ≡ a.turned_away → Tells (ReadsNext true conn) a b x (record x { input = input })
+  call_next call size b name hears named core printed filled away = record {
+    text = call_text x.name call size a.core;
+    printed = printed ∙ ap (λ (n : List ℕ). a.printed.items ++ call_text n call size a.core) named;
+    does = λ more last r.
+        comes (talk a x) last call size input more hears
+        (subst (λ (l : Life). ReadsOn conn (record { life = l; channel = record x { input = input } }) more last) core r);
+    filled = filled;
+    turned_away = away;
   }
 
--- no message stands whole
-pub nothing_next : (conn : ℕ) (a : Player) (x : Channel) (have : ℕ) (stream : Framing) → FramerAnswers x.stream (next.NeedMore have) stream
-    → Tells (ReadsOn conn) a a x (record x { stream = stream })
-nothing_next conn a x have stream comes = record {
-  text = [];
-  printed = sym (append-nil a.printed.items);
-  does = waits (talk a x) have stream comes;
-  filled = λ known. known;
-  turned_away = refl;
-}
+  -- what asks nothing
+  pub nothing_next : Hears (talk a x) told.Nothing input → Tells (ReadsNext true conn) a a x (record x { input = input })
+  nothing_next hears = record {
+    text = [];
+    printed = sym (append-nil a.printed.items);
+    does = λ more last r. skips (talk a x) last input more hears r;
+    filled = λ known. known;
+    turned_away = refl;
+  }
 
--- a place is bad
-pub bad_next : (conn : ℕ) (a b : Player) (x : Channel) (name : List ℕ) (at : ℕ) (why : Why) (stream : Framing) → FramerAnswers x.stream (next.Bad at why) stream
-    → name ≡ x.name
-    → b.core ≡ a.core → b.printed.items ≡ a.printed.items ++ bad_line name at → b.filled ≡ a.filled → b.turned_away ≡ a.turned_away
-    → Tells (ReadsOn conn) a b x (record x { stream = stream; dropped = true })
-bad_next conn a b x name at why stream comes named core printed filled away = record {
-  text = bad_line x.name at;
-  printed = printed ∙ ap (λ (n : List ℕ). a.printed.items ++ bad_line n at) named;
-  does = subst (λ (l : Life). ReadsOn conn (talk a x) (bad_line x.name at) (record { life = l; channel = record x { stream = stream; dropped = true } }))
-      (sym core)
-      (fails (talk a x) at why stream comes);
-  filled = λ known. ap (λ o. option_map numbers o) filled ∙ (known ∙ sym (ap (λ (l : Life). filled_at l.history) core));
-  turned_away = away;
-}
+  -- no message stands whole
+  pub more_next : (have : ℕ) → Hears (talk a x) (told.More have) input → Tells (ReadsNext false conn) a a x (record x { input = input })
+  more_next have hears = record {
+    text = [];
+    printed = sym (append-nil a.printed.items);
+    does = waits (talk a x) have input hears;
+    filled = λ known. known;
+    turned_away = refl;
+  }
+
+  -- a CloseConnection
+  pub closed_next : Hears (talk a x) told.Closed input → Tells (ReadsNext false conn) a a x (record x { input = input; dropped = true })
+  closed_next hears = record {
+    text = [];
+    printed = sym (append-nil a.printed.items);
+    does = closes (talk a x) input hears;
+    filled = λ known. known;
+    turned_away = refl;
+  }
+
+  -- a place is bad
+  pub bad_next : (b : Player) (name : List ℕ) (at : ℕ) → Hears (talk a x) (told.Bad at) input → name ≡ x.name
+      → b.core ≡ a.core → b.printed.items ≡ a.printed.items ++ bad_line name at → b.filled ≡ a.filled → b.turned_away ≡ a.turned_away
+      → Tells (ReadsNext false conn) a b x (record x { input = input; dropped = true })
+  bad_next b name at hears named core printed filled away = record {
+    text = bad_line x.name at;
+    printed = printed ∙ ap (λ (n : List ℕ). a.printed.items ++ bad_line n at) named;
+    does = subst (λ (l : Life). ReadsOn conn (talk a x) (bad_line x.name at) (record { life = l; channel = record x { input = input; dropped = true } }))
+        (sym core)
+        (fails (talk a x) at input hears);
+    filled = λ known. ap (λ o. option_map numbers o) filled ∙ (known ∙ sym (ap (λ (l : Life). filled_at l.history) core));
+    turned_away = away;
+  }
 
 pub next_so : (b c : Bool) (conn : ℕ) (old new : Player) (x y : Channel) → b ≡ c → Tells (ReadsNext b conn) old new x y → Tells (ReadsNext c conn) old new x y
 next_so b c conn old new x y same p = subst (λ (d : Bool). Tells (ReadsNext d conn) old new x y) same p

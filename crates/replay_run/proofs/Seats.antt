@@ -10,14 +10,8 @@ use Rattle.history_standing.specs.Arrivals.{connections}
 use Rattle.poa_history.specs.Legal.{has_left, is_filled, IsOpen}
 use Rattle.poa_history.specs.Life.{Life, with_entry}
 use Rattle.poa_core.specs.Answers.{filled_at, filled_by, is_taken}
-use Rattle.giop_frame.specs.Stream.{Framed}
-use Rattle.giop_msg.specs.Call.{CallOf}
 use Rattle.session_laws.specs.Calls.{Each, IsSaid}
-use Rattle.session_laws.proofs.Answering.{message_headed}
-use Rattle.session_laws.proofs.Calls.{each_more, each_same, headed_said}
-use Rattle.giop_msg.specs.declared.Incoming.{Incoming}
-use Rattle.giop_msg.specs.declared.Incoming.TheVariants as incoming
-use Rattle.giop_msg.specs.declared.MsgFault.{MsgFault}
+use Rattle.session_laws.proofs.Calls.{each_more, each_same}
 use Rattle.replay_run.specs.declared.channel.Channel.{Channel}
 use Rattle.replay_run.specs.declared.line.Line.{Line as LineData}
 use Rattle.replay_run.specs.declared.line.Line.TheVariants as line
@@ -26,10 +20,10 @@ use Rattle.replay_run.specs.World.{Talk}
 use Rattle.replay_run.specs.Lines.{reply_line}
 use Rattle.replay_run.specs.Working.{Either, Stays}
 use Rattle.replay_run.specs.Calling.{after_call}
-use Rattle.replay_run.specs.Reading.{did, dropped, with_stream, with_fed, Handles, ReadsOn, waits, fails, stops, reads_on, Feeds, ReadsBytes}
+use Rattle.replay_run.specs.Reading.{called, with_input, ReadsOn, waits, closes, fails, skips, comes, Feeds, ReadsBytes}
 use Rattle.replay_run.specs.Talking.{Commands, TakesLine, is_sized, TalkEnds, Leaves, left, Collects, Talks, numbered}
 use Rattle.replay_run.specs.Effects.{numbers, KnowsFilled}
-use Rattle.replay_run.specs.Keeping.{Keeps, IsSeated, IsCounted, Meets, knows, enters, refuses, talk}
+use Rattle.replay_run.specs.Keeping.{Keeps, IsSeated, Meets, knows, enters, refuses, talk}
 use Rattle.replay_run.proofs.Same.{Same, Still, Givens, same_givens, same_life, same_then, still_collects}
 use Rattle.replay_run.proofs.Arrived.{same_call}
 
@@ -86,30 +80,22 @@ rests_move conn before after r = record {
   said = r.said;
 }
 
-rests_did : (conn : ℕ) (asked : Result Incoming MsgFault) (m : Framed) (talk : Talk) → CallOf m.bytes asked → Rests talk (did conn asked m talk)
-rests_did conn (Ok (incoming.Call call)) m talk reads =
-    record {
-      same = same_call conn call (length m.bytes) talk.life;
+rests_read : (conn : ℕ) (before : Talk) (text : List ℕ) (after : Talk) → ReadsOn conn before text after → Rests before after
+rests_read conn before text after (waits b have input hears) = record { same = same_life b.life; number = refl; ended = refl; said = λ s. s }
+rests_read conn before text after (closes b input hears) = record { same = same_life b.life; number = refl; ended = refl; said = λ s. s }
+rests_read conn before text after (fails b at input hears) = record { same = same_life b.life; number = refl; ended = refl; said = λ s. s }
+rests_read conn before text after (skips b last input said hears more) =
+    (let r : Rests (with_input input b) last = rests_read conn (with_input input b) said last more in
+    record { same = r.same; number = r.number; ended = r.ended; said = r.said })
+rests_read conn before text after (comes b last call size input rest hears more) =
+    rests_then b (called conn call size (with_input input b)) last
+    (record {
+      same = same_call conn call size b.life;
       number = refl;
       ended = refl;
-      said = said_called conn call (length m.bytes) talk.life (headed_said call (message_headed m.bytes call reads));
-    }
-rests_did conn (Ok (incoming.Cancel id)) m talk reads = rests_talk talk
-rests_did conn (Ok incoming.Closing) m talk reads = record { same = same_life talk.life; number = refl; ended = refl; said = λ s. s }
-rests_did conn (Err fault) m talk reads = record { same = same_life talk.life; number = refl; ended = refl; said = λ s. s }
-
-rests_handled : (conn : ℕ) (m : Framed) (before : Talk) (text : List ℕ) (after : Talk) → Handles conn m before text after → Rests before after
-rests_handled conn m before text after h = rests_at before (did conn h.asked m before) after h.became (rests_did conn h.asked m before h.reads)
-
-rests_read : (conn : ℕ) (before : Talk) (text : List ℕ) (after : Talk) → ReadsOn conn before text after → Rests before after
-rests_read conn before text after (waits b have stream a) = record { same = same_life b.life; number = refl; ended = refl; said = λ s. s }
-rests_read conn before text after (fails b at why stream a) = record { same = same_life b.life; number = refl; ended = refl; said = λ s. s }
-rests_read conn before text after (stops b e m stream said a h d) =
-    (let r : Rests (with_stream stream b) e = rests_handled conn m (with_stream stream b) said e h in
-    record { same = r.same; number = r.number; ended = r.ended; said = r.said })
-rests_read conn before text after (reads_on b between e m stream front rest a h d more) =
-    (let r : Rests (with_stream stream b) between = rests_handled conn m (with_stream stream b) front between h in
-    rests_then b between e (record { same = r.same; number = r.number; ended = r.ended; said = r.said }) (rests_read conn between rest e more))
+      said = said_called conn call size b.life hears.2;
+    })
+    (rests_read conn (called conn call size (with_input input b)) rest last more)
 
 rests_stay : (before : Talk) (text : List ℕ) (after : Talk) → Stays before text after → Rests before after
 rests_stay before text after s = rests_at before before after s.1 (rests_talk before)
@@ -118,7 +104,7 @@ rests_fed : (b : Bool) (bytes : List ℕ) (conn : ℕ) (before : Talk) (text : L
     → Either b Stays (ReadsBytes conn bytes) before text after → Rests before after
 rests_fed true bytes conn before text after s = rests_stay before text after s
 rests_fed false bytes conn before text after f =
-    (let r : Rests (with_fed f.stream bytes before) after = rests_read conn (with_fed f.stream bytes before) text after f.reads in
+    (let r : Rests (with_input f.input before) after = rests_read conn (with_input f.input before) text after f.reads in
     record { same = r.same; number = r.number; ended = r.ended; said = r.said })
 
 rests_commanded : (b : Bool) (words : List ℕ) (conn : ℕ) (before : Talk) (text : List ℕ) (after : Talk)
@@ -193,7 +179,6 @@ changed_by (x ∷ xs) (suc i) a (suc j) b is =
 -- a connection of this number to which a line comes, where things stand so
 pub record Seat (conn : ℕ) (channels : List Channel) (place : ℕ) (old mid : Player) (channel : Channel) : Type 0 where
   pub number : channel.number ≡ Some conn
-  pub counted : IsCounted channel
   pub more : connections old.core.history ≤ connections mid.core.history
   pub mine : conn < connections mid.core.history
   pub left : (n : ℕ) → has_left mid.core.history n ≡ has_left old.core.history n
@@ -212,7 +197,6 @@ seat_known conn channels place old channel k at number =
     let s : IsSeated channel old.core.history = k.seated place channel at in
     record {
       number = number;
-      counted = s.counted;
       more = omega arith;
       mine = s.entered conn number;
       left = λ n. refl;
@@ -233,7 +217,6 @@ seat_entered channels place old mid channel k at life filled =
     let count : connections mid.core.history ≡ suc conn = ap (λ (l : Life). connections l.history) life in
     record {
       number = refl;
-      counted = record { reached = s.counted.reached; limited = s.counted.limited };
       more = omega (arith, count);
       mine = omega (arith, count);
       left = same;
@@ -268,9 +251,8 @@ module _ (conn : ℕ) (channels : List Channel) (place : ℕ) (old mid new : Pla
   left_still : (n : ℕ) → n ≢ conn → has_left new.core.history n ≡ has_left old.core.history n
   left_still n other = m.others n other ∙ s.left n
 
-  seated_last : IsCounted last → IsSeated last new.core.history
-  seated_last counted = record {
-    counted = counted;
+  seated_last : IsSeated last new.core.history
+  seated_last = record {
     entered = λ n is. (let same : n ≡ conn = last_number n is in omega (arith, same, s.mine, m.entered));
     staying = λ n is staying. subst (λ x. has_left new.core.history x ≡ false) (sym (last_number n is))
         ((m.own staying).1 ∙ s.own (m.own staying).0);
@@ -280,7 +262,6 @@ module _ (conn : ℕ) (channels : List Channel) (place : ℕ) (old mid new : Pla
   seated_other i a away there =
       let was : IsSeated a old.core.history = k.seated i a there in
       record {
-        counted = was.counted;
         entered = λ n is. entered_still n (was.entered n is);
         staying = λ n is staying. left_still n (s.other i n a there away is) ∙ was.staying n is staying;
       }
@@ -298,11 +279,11 @@ module _ (conn : ℕ) (channels : List Channel) (place : ℕ) (old mid new : Pla
   alone_by i j n a b (inr p) (inl q) is also = absurd (apart_from_last i n a p.0 p.1 is (number_of b n q.1 also))
   alone_by i j n a b (inr p) (inr q) is also = k.alone i j n a b p.1 q.1 is also
 
-  pub keeps_line : IsCounted last → KnowsFilled new → Keeps new (slice_set channels place last)
-  keeps_line counted filled = record {
+  pub keeps_line : KnowsFilled new → Keeps new (slice_set channels place last)
+  keeps_line filled = record {
     filled = filled;
     seated = λ i a there. elim (changed_by channels place last i a there) [
-      | inl p ↦ subst (λ (c : Channel). IsSeated c new.core.history) (sym p.1) (seated_last counted)
+      | inl p ↦ subst (λ (c : Channel). IsSeated c new.core.history) (sym p.1) seated_last
       | inr p ↦ seated_other i a p.0 p.1
     ];
     alone = λ i j n a b there also is same. alone_by i j n a b (changed_by channels place last i a there) (changed_by channels place last j b also) is same;
@@ -315,7 +296,6 @@ pub keeps_still : (old new : Player) (channels : List Channel) → Keeps old cha
 keeps_still old new channels k s filled = record {
   filled = ap (λ o. option_map numbers o) filled ∙ (k.filled ∙ sym s.filled);
   seated = λ i a there. (let was : IsSeated a old.core.history = k.seated i a there in record {
-    counted = was.counted;
     entered = λ n is. (let less : n < connections old.core.history = was.entered n is in omega (arith, s.same.entered, less));
     staying = λ n is staying. s.same.left n ∙ was.staying n is staying;
   });

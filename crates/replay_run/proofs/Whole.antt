@@ -1,5 +1,5 @@
 -- A script from its first line to its end.
-use Rattle.std.proofs.Common.{◌≡◌, ℕ, List, [], ◌∷◌, ◌++◌, Option, Some, None, Result, Ok, Err, OnOk, option_map, refl, sym, ap, ◌∙◌, subst}
+use Rattle.std.proofs.Common.{◌≡◌, ℕ, List, [], ◌∷◌, ◌++◌, Option, Some, None, option_map, refl, sym, ap, ◌∙◌, subst}
 use Rattle.std.specs.Option.{option_or}
 use Rattle.poa_base.specs.declared.Config.{Config}
 use Rattle.poa_history.specs.Legal.{IsLegal, has_left}
@@ -28,12 +28,13 @@ use Rattle.replay_run.specs.Talking.{OnLine, entered, turned_away, Carries, Coll
 use Rattle.replay_run.specs.Playing.{AreFresh, CollectsEach, CollectsOf, IsPlayed, OnLife, Plays, PlaysAll, IsOpening, Outputs}
 use Rattle.replay_run.specs.Opening.{life_at_first}
 use Rattle.replay_run.specs.Effects.{numbers, PlayerPrints, Works}
-use Rattle.replay_run.specs.Keeping.{IsAtFirst, IsNew, Keeps, Shows, world, IsSeated}
+use Rattle.replay_run.specs.Keeping.{IsAtFirst, Keeps, Shows, world, IsSeated}
 use Rattle.poa_base.specs.declared.Datum.{Datum}
 use Rattle.replay_run.specs.Asking.{asked}
 use Rattle.replay_run.specs.Reading.{Feeds}
 use Rattle.session_laws.specs.Calls.{Each, IsSaid}
 use Rattle.session_laws.proofs.Calls.{each_none}
+use Rattle.replay_run.proofs.Listed.{fresh_none}
 use Rattle.replay_run.proofs.Seats.{keeps_still}
 use Rattle.replay_run.proofs.Steps.{plays_givens}
 use Rattle.replay_run.proofs.Given.{legal_for, run_for, lifetime_for, undone_for, updates_for}
@@ -69,19 +70,15 @@ ask_shows place id path oid operation bytes argument old new xs ys same p = reco
 pub keeps_printed : (P : List ℕ → Type 0) (old new : Player) (xs : List Channel) → Keeps old xs → PlayerPrints P old new → Keeps new xs
 keeps_printed P old new xs k p = keeps_still old new xs k (subst (λ (l : Life). Still old.core l) (sym p.core) (still_life old.core)) p.filled
 
-pub on_ok : {X Y : Type 0} (r : Result X Y) (P Q : Type 0) → (P → Q) → OnOk r P → OnOk r Q
-on_ok (Ok x) P Q f p = f p
-on_ok (Err e) P Q f p = tt
-
-pub keeps_first : (c : Config) (limit : ℕ) (player : Player) (channels : List Channel) → IsAtFirst c limit player → IsNew channels → Keeps player channels
-keeps_first c limit player channels first new = record {
+pub keeps_first : (c : Config) (limit : ℕ) (player : Player) (names : List (List ℕ)) (channels : List Channel) → IsAtFirst c limit player
+    → AreFresh names channels → Keeps player channels
+keeps_first c limit player names channels first fresh = record {
   filled = ap (λ o. option_map numbers o) first.filled ∙ sym (ap (λ (l : Life). filled_at l.history) first.life);
   seated = λ i a at. record {
-    counted = (new i a at).1;
-    entered = λ n is. absurd (let e : None ≡ Some n = sym (new i a at).0 ∙ is in cc);
-    staying = λ n is. absurd (let e : None ≡ Some n = sym (new i a at).0 ∙ is in cc);
+    entered = λ n is. absurd (let e : None ≡ Some n = sym (fresh_none names channels fresh i a at) ∙ is in cc);
+    staying = λ n is. absurd (let e : None ≡ Some n = sym (fresh_none names channels fresh i a at) ∙ is in cc);
   };
-  alone = λ i j n a b at there is also. absurd (let e : None ≡ Some n = sym (new i a at).0 ∙ is in cc);
+  alone = λ i j n a b at there is also. absurd (let e : None ≡ Some n = sym (fresh_none names channels fresh i a at) ∙ is in cc);
   later = λ n more. ap (λ (l : Life). has_left l.history n) first.life;
   said = subst (λ (l : Life). Each IsSaid l.history) (sym first.life) (each_none IsSaid [] (λ r. refl));
 }

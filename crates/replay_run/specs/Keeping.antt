@@ -1,8 +1,6 @@
 -- What the player keeps between two lines, and what its parts say. These words are for the contracts inside of this crate.
-use Rattle.std.specs.Prelude.{◌≡◌, ℕ, ◌+◌, ◌≤◌, ◌<◌, ◌++◌, Bool, true, false, List, [], Option, Some, None, slice_get, length}
+use Rattle.std.specs.Prelude.{◌≡◌, ℕ, ◌+◌, ◌≤◌, ◌<◌, ◌++◌, Bool, true, false, List, [], Option, Some, None, slice_get}
 use Rattle.std.specs.Option.{option_or}
-use Rattle.giop_frame.specs.declared.Next.TheVariants as next
-use Rattle.giop_frame.specs.Framer.{reach, FramerAnswers}
 use Rattle.poa_base.specs.declared.Config.{Config}
 use Rattle.poa_base.specs.declared.Entry.{Entry}
 use Rattle.poa_base.specs.declared.Entry.TheVariants.{Entered}
@@ -14,12 +12,10 @@ use Rattle.replay_run.specs.declared.channel.Channel.{Channel}
 use Rattle.replay_run.specs.declared.player.Player.{Player}
 use Rattle.replay_run.specs.World.{World, Talk}
 use Rattle.replay_run.specs.Lines.{limit_line}
-use Rattle.replay_run.specs.Reading.{ReadsOn, Handles, Grows, with_stream}
+use Rattle.replay_run.specs.Reading.{ReadsOn}
 use Rattle.replay_run.specs.Talking.{has_room, numbered}
 use Rattle.replay_run.specs.Opening.{life_at_first}
 use Rattle.replay_run.specs.Effects.{KnowsFilled}
-use Rattle.giop_frame.specs.Stream.{Framed}
-use Rattle.giop_frame.specs.Framing.{Framing}
 
 abbrev pub talk : Player → Channel → Talk
 talk player channel = record { life = player.core; channel = channel }
@@ -27,14 +23,8 @@ talk player channel = record { life = player.core; channel = channel }
 abbrev pub world : Player → List Channel → World
 world player channels = record { life = player.core; channels = channels; turned_away = player.turned_away }
 
--- no more was fed than was counted, and no message is longer than one may be
-pub record IsCounted (channel : Channel) : Type 0 where
-  pub reached : reach channel.stream ≤ channel.fed
-  pub limited : channel.stream.limit ≡ 1048576
-
 -- a connection that entered, and hasn't left where it hasn't ended
 pub record IsSeated (channel : Channel) (h : List Entry) : Type 0 where
-  pub counted : IsCounted channel
   pub entered : (n : ℕ) → channel.number ≡ Some n → n < connections h
   pub staying : (n : ℕ) → channel.number ≡ Some n → channel.ended ≡ false → has_left h n ≡ false
 
@@ -64,21 +54,9 @@ pub record Shows (P : World → List ℕ → World → Type 0) (old new : Player
   pub does : P (world old channels_old) text (world new channels_new)
 
 -- what stands next was read: whether more may stand behind it
-pub record ReadsOne (conn : ℕ) (before : Talk) (text : List ℕ) (after : Talk) : Type 0 where
-  pub message : Framed
-  pub stream : Framing
-  pub comes : FramerAnswers before.channel.stream (next.Message message) stream
-  pub handles : Handles conn message (with_stream stream before) text after
-  pub goes_on : after.channel.dropped ≡ false
-
 abbrev pub ReadsNext : Bool → ℕ → Talk → List ℕ → Talk → Type 0
-ReadsNext true = ReadsOne
-ReadsNext false = ReadsOn
-
--- bytes were put behind what was fed
-pub record Puts (bytes : List ℕ) (old new : Channel) : Type 0 where
-  pub grows : Grows old.stream bytes new.stream
-  pub became : new ≡ record old { stream = new.stream; fed = old.fed + length bytes }
+ReadsNext true conn before text after = (more : List ℕ) (last : Talk) → ReadsOn conn after more last → ReadsOn conn before (text ++ more) last
+ReadsNext false conn before text after = ReadsOn conn before text after
 
 -- nothing was printed, and no limit was met
 pub record Silent (old new : Player) : Type 0 where
@@ -105,10 +83,6 @@ pub data Meets (met : Option ℕ) (old new : Player) (channel_old channel_new : 
 -- those that have a number entered
 abbrev pub AllEntered : List Channel → List Entry → Type 0
 AllEntered channels h = (i n : ℕ) (a : Channel) → slice_get channels i ≡ Some a → a.number ≡ Some n → n < connections h
-
--- connections that have had no line
-abbrev pub IsNew : List Channel → Type 0
-IsNew channels = (i : ℕ) (a : Channel) → slice_get channels i ≡ Some a → (a.number ≡ None) × IsCounted a
 
 -- a player before the first line
 pub record IsAtFirst (c : Config) (limit : ℕ) (player : Player) : Type 0 where

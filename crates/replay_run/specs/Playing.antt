@@ -2,7 +2,9 @@
 use Rattle.std.specs.Prelude.{◌≡◌, ℕ, false, List, [], ◌∷◌, ◌++◌, Option, Some, None, option_map}
 use Rattle.std.specs.Option.{option_or}
 use Rattle.poa_base.specs.declared.Config.{Config}
-use Rattle.giop_frame.specs.Framer.{HasGiven}
+use Rattle.session_laws.specs.declared.peer.Peer.TheVariants.{Client}
+use Rattle.session_laws.specs.Expecting.{Expects}
+use Rattle.session_laws.specs.HearingPieces.{OfIntake}
 use Rattle.poa_history.specs.Legal.{IsLegal}
 use Rattle.poa_history.specs.Lifetime.{HasLifetime}
 use Rattle.history_laws.specs.Undone.{IsAllDone}
@@ -58,8 +60,7 @@ PlaysAll (s ∷ ss) = Then (Plays s.step) (PlaysAll ss)
 pub record IsFresh (name : List ℕ) (channel : Channel) : Type 0 where
   pub named : channel.name ≡ name
   pub number : channel.number ≡ None
-  pub stream : HasGiven 1048576 [] [] channel.stream
-  pub fed : channel.fed ≡ 0
+  pub input : Expects Client (OfIntake channel.input) [] []
   pub lines : channel.lines ≡ 0
   pub dropped : channel.dropped ≡ false
   pub ended : channel.ended ≡ false

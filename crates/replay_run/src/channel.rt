@@ -1,14 +1,10 @@
 //! The connections of a script.
 ghost use Rattle.std.specs.Prelude.{IfOk};
 ghost use Rattle.replay_run.specs.Playing.{AreFresh, IsFresh};
-ghost use Rattle.replay_run.specs.Keeping.{IsCounted, IsNew};
 
-use giop_frame::Framer;
 use poa_base::{Name, WantMemory};
+use session_laws::{Input, Peer};
 use std::alloc::Global;
-
-/// The largest size that a message may have, without its header.
-const MESSAGE_LIMIT: u32 = 1_048_576;
 
 /// A connection of a script.
 #[derive(Drop)]
@@ -16,10 +12,8 @@ pub(crate) struct Channel {
     pub(crate) name: Name,
     /// Its number, once it entered.
     pub(crate) number: Option<u32>,
-    /// What was fed and isn't read yet.
-    pub(crate) stream: Framer,
-    /// How many bytes were fed.
-    pub(crate) fed: u64,
+    /// What came of its stream of messages, and isn't read yet.
+    pub(crate) input: Input,
     /// How many lines of an administrator came.
     pub(crate) lines: u64,
     /// No more bytes are read.
@@ -30,8 +24,7 @@ pub(crate) struct Channel {
 
 /// The connections of these names, before their first lines.
 pub(crate) fn channels_of(alloc: Global, names: &[Name]) -> Result<Vec<Channel>, WantMemory>
-    ensures fresh { IfOk result (λ all. AreFresh names.now all.items) }
-    ensures new { IfOk result (λ all. IsNew all.items) }
+    ensures { IfOk result (λ all. AreFresh names.now all.items) }
 {
     let mut all = Vec::with_capacity(alloc, names.len())?;
     for name in names {
@@ -41,14 +34,12 @@ pub(crate) fn channels_of(alloc: Global, names: &[Name]) -> Result<Vec<Channel>,
 }
 
 fn channel_of(alloc: Global, name: Name) -> Channel
-    ensures fresh { IsFresh name result }
-    ensures counted { IsCounted result }
+    ensures { IsFresh name result }
 {
     Channel {
         name,
         number: None,
-        stream: Framer::new(alloc, MESSAGE_LIMIT),
-        fed: 0,
+        input: Input::new(alloc, Peer::Client),
         lines: 0,
         dropped: false,
         ended: false,

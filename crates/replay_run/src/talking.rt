@@ -4,7 +4,7 @@ ghost use Rattle.history_standing.specs.Arrivals.{connections};
 ghost use Rattle.poa_history.specs.Legal.{IsOpen};
 ghost use Rattle.replay_run.specs.Talking.{Collects, Commands, TalkEnds, OnLine, Talks, is_sized as is_sized_line};
 ghost use Rattle.session_laws.specs.Calls.{Each, IsSaid};
-ghost use Rattle.replay_run.specs.Keeping.{IsCounted, Keeps, Meets, Shows, Tells};
+ghost use Rattle.replay_run.specs.Keeping.{Keeps, Meets, Shows, Tells};
 
 use crate::channel::Channel;
 use crate::full::Full;
@@ -91,10 +91,8 @@ impl Channel {
         requires entered { conn < connections player.old.core.history }
         requires said { Each IsSaid player.old.core.history }
         requires open_ { self.old.ended ≡ false → IsOpen player.old.core.history conn }
-        requires counted { IsCounted self.old }
-        ensures tells { OnOk result
+        ensures { OnOk result
             (Tells (Talks line.entry conn) player.old player.new self.old self.new) }
-        ensures counted { OnOk result (IsCounted self.new) }
     {
         match line {
             Line::Bytes(bytes) => self.feed(alloc, player, conn, bytes),
@@ -118,10 +116,9 @@ impl Channel {
         conn: u32,
         words: &[u8],
     ) -> Result<(), WantMemory>
-        requires open_ { self.old.ended ≡ false → IsOpen player.old.core.history conn }
-        ensures tells { OnOk result
+        requires { self.old.ended ≡ false → IsOpen player.old.core.history conn }
+        ensures { OnOk result
             (Tells (Commands words.now conn) player.old player.new self.old self.new) }
-        ensures counted { IsCounted self.old → IsCounted self.new }
     {
         if self.ended || !is_sized(words) {
             return Ok(());
@@ -137,9 +134,8 @@ impl Channel {
 
     // The connection leaves.
     fn end(&mut self, player: &mut Player, conn: u32)
-        requires open_ { self.old.ended ≡ false → IsOpen player.old.core.history conn }
-        ensures tells { Tells (TalkEnds conn) player.old player.new self.old self.new }
-        ensures counted { IsCounted self.old → IsCounted self.new }
+        requires { self.old.ended ≡ false → IsOpen player.old.core.history conn }
+        ensures { Tells (TalkEnds conn) player.old player.new self.old self.new }
     {
         if self.ended {
             return;
@@ -152,9 +148,8 @@ impl Channel {
     fn collect(&mut self, alloc: Global, player: &mut Player, conn: u32) -> Result<(), WantMemory>
         requires entered { conn < connections player.old.core.history }
         requires said { Each IsSaid player.old.core.history }
-        ensures tells { OnOk result
+        ensures { OnOk result
             (Tells (Collects conn) player.old player.new self.old self.new) }
-        ensures counted { IsCounted self.old → IsCounted self.new }
     {
         player.collect_all(alloc, self.name.as_slice(), conn)?;
         Ok(())

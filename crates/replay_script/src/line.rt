@@ -1,5 +1,5 @@
 //! One line.
-ghost use Rattle.std.specs.Prelude.{◌≡◌, map};
+ghost use Rattle.std.specs.Prelude.{map};
 ghost use Rattle.text_words.specs.WordGives.{WordGives};
 ghost use Rattle.replay_script.specs.Reading.{admin_of, ask_of, behind_verb, command_of, feed_of, flood_count as flood_count_of, flood_of, line_of, verb_of, worker_of, written_of};
 

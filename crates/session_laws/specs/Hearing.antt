@@ -1,6 +1,7 @@
 -- What is heard of a client: the calls of the messages of its stream, up to the one that ends its input.
 use Rattle.std.specs.Prelude.{◌≡◌, ℕ, List, [], ◌∷◌, length, Result, Ok, Err}
 use Rattle.poa_base.specs.declared.Call.{Call}
+use Rattle.poa_base.specs.declared.limits.TheConstants.{MESSAGE_LIMIT}
 use Rattle.giop_frame.specs.Stream.{Framed, End, left_over, bad_place, Stream}
 use Rattle.giop_msg.specs.declared.Incoming.{Incoming}
 use Rattle.giop_msg.specs.declared.Incoming.TheVariants as incoming
@@ -26,7 +27,7 @@ pub data Stop : Type 0 where
 
 -- the largest size that a message may have, without its header
 abbrev pub message_limit : ℕ
-message_limit = 1048576
+message_limit = MESSAGE_LIMIT
 
 abbrev pub stop_at : End → Stop
 stop_at (left_over have) = over have

@@ -14,10 +14,8 @@ use giop_answer::kind::MINOR;
 use giop_frame::{Framer, Message, Next};
 use giop_msg::{Incoming, MsgFault, read_call};
 use poa_base::WantMemory;
+use poa_base::limits::MESSAGE_LIMIT;
 use std::alloc::Global;
-
-/// The largest size that a message may have, without its header.
-const MESSAGE_LIMIT: u32 = 1_048_576;
 
 /// What hears a peer.
 #[derive(Drop)]

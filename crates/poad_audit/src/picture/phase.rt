@@ -44,7 +44,7 @@ impl Phase {
             Event::Incarnated { brought } => brought_by(asked, *brought),
             Event::Ran => Phase::Running,
             Event::Ended => self.done(asked),
-            Event::Collected => self.taken(),
+            Event::Collected(_) => self.taken(),
         }
     }
 

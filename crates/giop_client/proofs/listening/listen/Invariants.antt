@@ -1,6 +1,7 @@
 use Rattle.std.proofs.Common.{ℕ, ◌+◌, ◌-◌, ◌<◌, ◌≤◌, ◌≡◌}
 use Rattle.giop_frame.specs.Framer.{reach}
-use Rattle.giop_client.specs.declared.hearing.TheConstants.{MESSAGE_LIMIT, READ_LIMIT}
+use Rattle.poa_base.specs.declared.limits.TheConstants.{MESSAGE_LIMIT}
+use Rattle.giop_client.specs.declared.hearing.TheConstants.{READ_LIMIT}
 use Rattle.giop_client.specs.declared.listening.TheConstants.{MOST_QUIETS}
 use Rattle.giop_client.proofs.Listened.{Heard}
 use Rattle.giop_client.proofs.listening.listen.Given as goal

@@ -4,7 +4,8 @@ use Rattle.replay_run.specs.Asking.{ask_for}
 use Rattle.replay_run.specs.Working.{Turns, Runs, ByWorker}
 use Rattle.replay_run.proofs.Same.{still_worker_turns, still_worker_runs}
 use Rattle.replay_run.proofs.Seats.{keeps_still}
-use Rattle.replay_run.proofs.Whole.{on_ok, life_shows, step_shows, ask_shows, keeps_printed}
+use Rattle.session_laws.proofs.Answers.{on_ok}
+use Rattle.replay_run.proofs.Whole.{life_shows, step_shows, ask_shows, keeps_printed}
 use Rattle.replay_run.proofs.replaying.play.Goals as goal
 
 pub returns-in_ok-bytes-in-Ask-clause-shows : goal.returns-in_ok-bytes-in-Ask-clause-shows

@@ -10,7 +10,7 @@ use Rattle.replay_run.proofs.replaying.replay.Goals as goal
 
 pub play_all-requires : goal.play_all-requires
 play_all-requires c =
-    keeps_first c.args.config c.args.limit c.in_ok-player.player c.in_ok-channels.channels.items c.in_ok-player.ensures c.in_ok-channels.ensures.new
+    keeps_first c.args.config c.args.limit c.in_ok-player.player _ c.in_ok-channels.channels.items c.in_ok-player.ensures c.in_ok-channels.ensures
 
 pub returns : goal.returns
 returns c =
@@ -19,7 +19,7 @@ returns c =
     let r = c.finish.new.player in
     let xs = c.in_ok-channels.channels.items in
     let ys = c.play_all.new.channels.items in
-    let fresh = subst (λ (names : List (List ℕ)). AreFresh names xs) c.as_slice.ensures c.in_ok-channels.ensures.fresh in
+    let fresh = subst (λ (names : List (List ℕ)). AreFresh names xs) c.as_slice.ensures c.in_ok-channels.ensures in
     let shows = subst (λ (steps : List ScriptStep). Shows (PlaysAll steps) p q xs ys) c.as_slice-2.ensures c.in_ok-play_all.ensures.shows in
     let lent : c.deref.result.now ≡ ys = search rules in
     let works = subst (λ (cs : List Channel). Works (Then Rests (CollectsEach cs)) q r) lent c.in_ok-finish.ensures in

@@ -52,19 +52,13 @@ talk-requires-clause-open_ c =
     c.in_ok-conn.ensures in
     λ staying. record { entered = seat.mine; staying = seat.own staying }
 
-pub talk-requires-clause-counted : goal.talk-requires-clause-counted
-talk-requires-clause-counted c =
-    (seat_at c.in-Some-2.conn _ c.args.channels.now.items c.args.place c.args.player.now c.meet.new.player c.in-Some.channel.now c.meet.new.self
-    c.requires (read_at c.args.channels.now.items c.args.place c.in-Some.channel.now c.in-Some.ensures.item.3.0 c.in-Some.ensures.value) c.in-Some-2.is
-    c.in_ok-conn.ensures).counted
-
 pub returns-clause-shows : goal.returns-clause-shows
 returns-clause-shows c =
     line_told (Talks c.args.line) c.args.place c.args.player.now c.args.channels.now.items c.in-Some-2.conn c.meet.new.player c.talk.new.player
     c.in-Some.channel.now c.meet.new.self c.talk.new.self
     (read_at c.args.channels.now.items c.args.place c.in-Some.channel.now c.in-Some.ensures.item.3.0 c.in-Some.ensures.value)
     (subst (λ (o : Option ℕ). Meets o c.args.player.now c.meet.new.player c.in-Some.channel.now c.meet.new.self) c.in-Some-2.is c.in_ok-conn.ensures)
-    c.in_ok-talk.ensures.tells
+    c.in_ok-talk.ensures
 
 pub returns-clause-keeps : goal.returns-clause-keeps
 returns-clause-keeps c =
@@ -72,8 +66,8 @@ returns-clause-keeps c =
     seat_at c.in-Some-2.conn _ c.args.channels.now.items c.args.place c.args.player.now c.meet.new.player c.in-Some.channel.now c.meet.new.self
     c.requires (read_at c.args.channels.now.items c.args.place c.in-Some.channel.now c.in-Some.ensures.item.3.0 c.in-Some.ensures.value) c.in-Some-2.is
     c.in_ok-conn.ensures in
-    let told = c.in_ok-talk.ensures.tells in
+    let told = c.in_ok-talk.ensures in
     keeps_line c.in-Some-2.conn c.args.channels.now.items c.args.place c.args.player.now c.meet.new.player c.talk.new.player c.meet.new.self
     c.talk.new.self c.requires seat
     (moves_talked c.args.line c.in-Some-2.conn (talk c.meet.new.player c.meet.new.self) told.text (talk c.talk.new.player c.talk.new.self) told.does)
-    c.in_ok-talk.ensures.counted (told.filled (seat.filled c.requires.filled))
+    (told.filled (seat.filled c.requires.filled))

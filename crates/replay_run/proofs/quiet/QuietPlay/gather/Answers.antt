@@ -4,7 +4,7 @@ use Rattle.replay_run.specs.Keeping.{AllEntered}
 use Rattle.replay_run.specs.Quiet.{GathersEach, PutsBehind}
 use Rattle.replay_run.proofs.Gathered.{gathered, still_each, still_givens}
 use Rattle.replay_run.proofs.Seats.{keeps_still}
-use Rattle.replay_run.proofs.Whole.{on_ok}
+use Rattle.session_laws.proofs.Answers.{on_ok}
 use Rattle.replay_run.proofs.quiet.QuietPlay.gather.Goals as goal
 
 pub gather_each-requires-clause-entered : goal.gather_each-requires-clause-entered

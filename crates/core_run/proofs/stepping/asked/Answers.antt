@@ -1,6 +1,6 @@
 use Rattle.core_state.proofs.Stated.{answers_state}
 use Rattle.core_run.specs.Agrees.{history, opened_in}
-use Rattle.core_run.proofs.stepping.next.Goals as goal
+use Rattle.core_run.proofs.stepping.asked.Goals as goal
 
 pub next-requires-clause-told : goal.next-requires-clause-told
 next-requires-clause-told c =

@@ -1,6 +1,6 @@
 use Rattle.std.proofs.Common.{length}
-use Rattle.giop_client.proofs.Written.{Written}
-use Rattle.giop_client.proofs.writing.write_all.Given as goal
+use Rattle.outside.proofs.Written.{Written}
+use Rattle.outside.proofs.sending.write_all.Given as goal
 
 abbrev pub invariant-loop-rest : goal.invariant-loop-rest
 invariant-loop-rest g l = Written (g.L.Link.shown l.initial.link) (g.L.Link.shown l.link) l.bytes l.rest

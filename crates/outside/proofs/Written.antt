@@ -1,9 +1,8 @@
 -- How far a write of a whole piece has come.
 use Rattle.std.proofs.Common.{◌≡◌, ℕ, ◌-◌, List, [], ◌++◌, length, take, drop, true, false, refl, sym, ap, subst, ◌∙◌, append_assoc}
 use Rattle.std.proofs.lemmas.List.{take-append-drop, take_rest}
-use Rattle.outside.specs.Link.{Shown, Moves}
+use Rattle.outside.specs.Link.{Shown, Moves, Writes}
 use Rattle.outside.proofs.Moving.{moves_none, moves_out, moves_still}
-use Rattle.poa_session.specs.Writing.{Writes}
 
 -- the link took a front of the bytes, and this rest follows it
 pub record Written (a b : Shown) (bytes rest : List ℕ) : Type 0 where

@@ -1,9 +1,0 @@
-use Rattle.std.proofs.Common.{length}
-use Rattle.poa_session.proofs.Written.{Written}
-use Rattle.poa_session.proofs.writing.write_all.Given as goal
-
-abbrev pub invariant-loop-rest : goal.invariant-loop-rest
-invariant-loop-rest g l = Written (g.L.Link.shown l.initial.link) (g.L.Link.shown l.link) l.bytes l.rest
-
-abbrev pub decreases-loop-rest : goal.decreases-loop-rest
-decreases-loop-rest g l = length l.rest
