@@ -31,7 +31,6 @@ pub fn none(alloc: Global) -> Calls
 }
 
 /// The entry with which a call arrived.
-#[inline(always)]
 fn entry_of<'a>(entries: &'a Entries, places: &[usize], arrival: u64) -> Option<EntryView<'a>>
     ensures { option_map seen result ≡ placed.entry_of entries.now.items places.now arrival }
 {
@@ -42,7 +41,6 @@ fn entry_of<'a>(entries: &'a Entries, places: &[usize], arrival: u64) -> Option<
 }
 
 /// The call that arrived with an entry.
-#[inline(always)]
 fn call_in(entry: Option<EntryView<'_>>) -> Option<&Call>
     ensures { option_copied result ≡ placed.call_in (option_map seen entry.entry) }
 {
@@ -63,7 +61,6 @@ fn conn_in(entry: Option<EntryView<'_>>) -> Option<u32>
 }
 
 /// The call of an arrival.
-#[inline(always)]
 pub fn call<'a>(entries: &'a Entries, calls: &Calls, arrival: u64) -> Option<&'a Call>
     ensures { CallsAgree (reverse entries.now.items) calls.now.places.items
         → option_copied result ≡ arrived.call_of (reverse entries.now.items) arrival }
@@ -80,7 +77,6 @@ pub fn conn(entries: &Entries, calls: &Calls, arrival: u64) -> Option<u32>
 }
 
 /// The call that an entry admits.
-#[inline(always)]
 pub fn call_admitted<'a>(entries: &'a Entries, calls: &Calls, entry: &Entry) -> Option<&'a Call>
     ensures { CallsAgree (reverse entries.now.items) calls.now.places.items
         → option_copied result ≡ made.call_admitted (reverse entries.now.items) entry.now }
@@ -92,7 +88,6 @@ pub fn call_admitted<'a>(entries: &'a Entries, calls: &Calls, entry: &Entry) -> 
 }
 
 /// The call of an arrival, where there is one.
-#[inline(always)]
 fn call_at<'a>(entries: &'a Entries, calls: &Calls, arrival: Option<u64>) -> Option<&'a Call>
     ensures { CallsAgree (reverse entries.now.items) calls.now.places.items
         → option_copied result
@@ -106,7 +101,6 @@ fn call_at<'a>(entries: &'a Entries, calls: &Calls, arrival: Option<u64>) -> Opt
 
 /// The call that goes back to the queue with an entry, where one does. It is given what the entry's worker had
 /// begun.
-#[inline(always)]
 pub fn call_tried<'a>(
     entries: &'a Entries,
     calls: &Calls,
@@ -127,7 +121,6 @@ pub fn call_tried<'a>(
 }
 
 /// Makes room for one call more.
-#[inline(always)]
 pub fn reserve(calls: &mut Calls) -> Result<(), WantMemory>
     ensures same { calls.new.places.items ≡ calls.old.places.items }
     ensures room { OnOk result (vec_len calls.new.places < vec_capacity calls.new.places) }
@@ -137,7 +130,6 @@ pub fn reserve(calls: &mut Calls) -> Result<(), WantMemory>
 }
 
 /// Takes in an entry of the journal, by its place there. Takes no memory.
-#[inline(always)]
 pub fn advance(entry: &Entry, place: usize, calls: &mut Calls)
     requires { placed.arrives entry.now ≡ true
         → vec_len calls.old.places < vec_capacity calls.old.places }

@@ -25,7 +25,6 @@ pub fn is_shutdown(call: &Call) -> bool
 }
 
 /// Whether there is a call, and it is a `shutdown`.
-#[inline(always)]
 fn is_shut_by(call: Option<&Call>) -> bool
     ensures { result ≡ leaving.is_shut_by (option_copied call.entry) }
 {
@@ -76,7 +75,6 @@ fn enter(conn: u32, tally: &mut Tally)
 }
 
 /// A call arrives.
-#[inline(always)]
 fn arrive(conn: u32, size: u64, call: &Call, tally: &mut Tally)
     ensures { TallyTakesAfter (λ past. tallies.AreFew (Arrive conn size call.now ∷ past))
         (Arrive conn size call.now) tally.old tally.new }
@@ -105,7 +103,6 @@ fn leave(conn: u32, tally: &mut Tally)
 }
 
 /// A call is admitted, whatever it is answered.
-#[inline(always)]
 fn admit(worker: u32, arrival: u64, verdict: &Verdict, call: Option<&Call>, tally: &mut Tally)
     ensures { TallyTakesAfter (λ past. option_copied call.entry ≡ calls.call_of past arrival)
         (Admit worker arrival verdict.now) tally.old tally.new }
@@ -121,7 +118,6 @@ fn give_up(worker: u32, tally: &mut Tally)
 }
 
 /// Takes in an entry, with the call of the arrival that it admits. Takes no memory.
-#[inline(always)]
 pub fn advance(entry: &Entry, call: Option<&Call>, tally: &mut Tally)
     requires { HasRoomFor entry.now tally.old }
     ensures { tallies.TallyFollows entry.now (option_copied call.entry) tally.old tally.new }

@@ -8,7 +8,6 @@ ghost use Rattle.core_arrivals.specs.Numbers.{inserted, without};
 use std::collections::VecDeque;
 
 /// Whether a number is one of numbers that ascend.
-#[inline(always)]
 pub fn has(numbers: &VecDeque<u64>, number: u64) -> bool
     ensures { Ascends numbers.now.items → result ≡ list_any (λ x. x == number) numbers.now.items }
 {
@@ -39,7 +38,6 @@ pub fn insert(numbers: &mut VecDeque<u64>, number: u64)
 }
 
 /// Puts a number behind all, where it is to. Takes no memory.
-#[inline(always)]
 pub fn push_if(is: bool, numbers: &mut VecDeque<u64>, number: u64)
     requires { deque_len numbers.old < deque_capacity numbers.old }
     ensures { numbers.new.items

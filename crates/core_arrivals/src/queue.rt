@@ -80,7 +80,6 @@ pub fn reserve(queue: &mut Queue) -> Result<(), WantMemory>
 }
 
 /// A call arrives. It is crowded where too many wait.
-#[inline(always)]
 fn arrive(call: &Call, arrival: u64, queue: &mut Queue)
     requires { HasPlace queue.old }
     ensures { queued.QueueArrives arrival call.now queue.old queue.new }
@@ -94,7 +93,6 @@ fn arrive(call: &Call, arrival: u64, queue: &mut Queue)
 }
 
 /// An arrival is admitted.
-#[inline(always)]
 fn admit(arrival: u64, queue: &mut Queue)
     ensures { queued.QueueAdmits arrival queue.old queue.new }
 {
@@ -137,7 +135,6 @@ fn tried(answer: Attempt, call: Option<&Call>, arrival: Option<u64>, queue: &mut
 
 /// Takes in an entry of the journal: it is given how many calls arrived before, what the entry's worker had
 /// begun, and the call that goes back to the queue where the entry says that a child was made. Takes no memory.
-#[inline(always)]
 pub fn advance(entry: &Entry, arrivals: u64, stage: Stage, call: Option<&Call>, queue: &mut Queue)
     requires { may_queue entry.now ≡ true → HasPlace queue.old }
     ensures { queued.QueueFollows entry.now arrivals stage (option_copied call.entry)

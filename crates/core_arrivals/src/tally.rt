@@ -44,7 +44,6 @@ pub fn none(alloc: Global) -> Tally
 }
 
 /// Makes room for a connection; all else is as it was.
-#[inline(always)]
 pub fn reserve(tally: &mut Tally) -> Result<(), WantMemory>
     ensures room { OnOk result (HasRoomForOne tally.new) }
     ensures same { TallyStays tally.old tally.new }

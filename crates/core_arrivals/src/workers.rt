@@ -30,7 +30,6 @@ pub fn all_free(alloc: Global) -> Result<Workers, WantMemory>
 }
 
 /// What a worker has begun and not ended.
-#[inline(always)]
 pub fn stage(workers: &Workers, worker: u32) -> Stage
     ensures there { result ≡ slice_index_or workers.now.stages.items worker stage_kinds.Free }
     ensures begun { WorkersTell worker workers.now (λ h. result ≡ history.stage h worker) }
@@ -52,7 +51,6 @@ pub fn is_abandoned(workers: &Workers, worker: u32) -> bool
 }
 
 /// The worker that makes an entry.
-#[inline(always)]
 fn worker_of(entry: &Entry) -> Option<u32>
     ensures { result ≡ tables.worker_of entry.now }
 {
@@ -69,7 +67,6 @@ fn worker_of(entry: &Entry) -> Option<u32>
 }
 
 /// What the worker of an entry, where a worker makes it, has begun before.
-#[inline(always)]
 pub fn stage_at(workers: &Workers, entry: &Entry) -> Stage
     ensures { tables.WorkersTellBefore entry.now workers.now
         (λ past. result ≡ entries.stage_at past entry.now) }
@@ -81,7 +78,6 @@ pub fn stage_at(workers: &Workers, entry: &Entry) -> Stage
 }
 
 /// Notes what a worker has begun.
-#[inline(always)]
 fn set_stage(stages: &mut Vec<Stage>, worker: u32, stage: Stage)
     ensures { stages.new.items ≡ slice_set stages.old.items worker stage }
 {
@@ -100,7 +96,6 @@ fn set_abandoned(flags: &mut Vec<bool>, worker: u32)
 }
 
 /// What the workers have begun after an entry.
-#[inline(always)]
 fn advance_stages(entry: &Entry, workers: &mut Workers)
     ensures stages { tables.StagesFollow entry.now workers.old.stages.items
         workers.new.stages.items }
@@ -113,7 +108,6 @@ fn advance_stages(entry: &Entry, workers: &mut Workers)
 }
 
 /// Which workers gave up after an entry.
-#[inline(always)]
 fn advance_abandoned(entry: &Entry, flags: &mut Vec<bool>)
     ensures { tables.FlagsFollow entry.now flags.old.items flags.new.items }
 {
@@ -123,7 +117,6 @@ fn advance_abandoned(entry: &Entry, flags: &mut Vec<bool>)
 }
 
 /// Takes in an entry of the journal. Takes no memory.
-#[inline(always)]
 pub fn advance(entry: &Entry, workers: &mut Workers)
     ensures { tables.WorkersFollow entry.now workers.old workers.new }
 {

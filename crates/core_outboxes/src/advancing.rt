@@ -15,7 +15,6 @@ use core_standing::Standing;
 use poa_base::{Config, Entry, Reply};
 
 /// An arrival that is admitted gets what it waits for from now on.
-#[inline(always)]
 fn set_wait(entry: &Entry, wait: Option<Wait>, desk: &mut Desk)
     ensures owing { desk.new.owing.items
         ≡ map (desks.waited_by entry.now wait) desk.old.owing.items }
@@ -29,7 +28,6 @@ fn set_wait(entry: &Entry, wait: Option<Wait>, desk: &mut Desk)
 }
 
 /// The arrival that is decided, and its reply; where none is, a reply that no row gets.
-#[inline(always)]
 fn parted(decision: Option<Decision>) -> (Option<u64>, Reply)
     ensures target { result.0 ≡ target_of decision }
     ensures reply { IfSome decision (λ it. result.1 ≡ it.reply) }
@@ -43,7 +41,6 @@ fn parted(decision: Option<Decision>) -> (Option<u64>, Reply)
 /// An entry comes: it decides this arrival, if one, and each command for which what it waits for has come.
 /// `standing` is what stands after it. A call that arrives with it is owed its reply afterwards, by `owe`; what
 /// it collects was collected before. Takes no memory.
-#[inline(always)]
 pub fn advance(
     config: &Config,
     standing: &Standing,

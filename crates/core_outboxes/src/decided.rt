@@ -16,7 +16,6 @@ use poa_history::workers::{arrival_in, brings};
 use std::alloc::Global;
 
 /// Whether a verdict is the end of a call.
-#[inline(always)]
 fn is_final(verdict: &Verdict) -> bool
     ensures { result ≡ replies.is_final verdict.now }
 {
@@ -37,7 +36,6 @@ fn is_final(verdict: &Verdict) -> bool
 }
 
 /// Whether an entry is the end of the call that it speaks of. It may decide commands that wait in any case.
-#[inline(always)]
 pub fn may_decide(entry: &Entry) -> bool
     ensures { result ≡ fixed.may_decide entry.now }
 {
@@ -51,7 +49,6 @@ pub fn may_decide(entry: &Entry) -> bool
 }
 
 /// The arrival that an entry speaks of.
-#[inline(always)]
 fn target_in(stage: Stage, entry: &Entry) -> Option<u64>
     ensures { result ≡ fixed.target_in stage entry.now }
 {
@@ -62,7 +59,6 @@ fn target_in(stage: Stage, entry: &Entry) -> Option<u64>
 }
 
 /// The reply that an entry fixes for it.
-#[inline(always)]
 fn reply_in(
     alloc: Global,
     config: &Config,
@@ -92,7 +88,6 @@ fn reply_in(
 /// `outcome` is, at a Run, the one of the servant that runs. A command that waited has its reply `ok` of whatever
 /// entry. `WantMemory`: no memory was left for the reply; a Run, and an entry that goes on with its call, never
 /// answers it.
-#[inline(always)]
 pub fn decision_of(
     alloc: Global,
     config: &Config,

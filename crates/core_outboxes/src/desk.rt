@@ -68,7 +68,6 @@ impl Desk {
     }
 
     /// A call is owed a reply, for which there is room.
-    #[inline(always)]
     pub fn owe(&mut self, owing: Owing)
         requires { HasRoomForOne owing.conn self.old }
         ensures owing { self.new.owing.items ≡ self.old.owing.items ++ owing ∷ [] }
@@ -82,7 +81,6 @@ impl Desk {
     }
 
     /// An arrival was admitted, and waits for this or for nothing.
-    #[inline(always)]
     pub fn set_wait(&mut self, arrival: u64, wait: Option<Wait>)
         ensures owing { self.new.owing.items
             ≡ map (desks.set_wait arrival wait) self.old.owing.items }
@@ -98,7 +96,6 @@ impl Desk {
 
     /// An entry decides the target, with this reply, and each command for which what it waits for has come.
     /// Takes no memory.
-    #[inline(always)]
     pub fn decide(
         &mut self,
         config: &Config,
@@ -136,7 +133,6 @@ impl Desk {
     }
 
     /// The first reply of a connection is given out. Takes no memory.
-    #[inline(always)]
     pub fn collect(&mut self, conn: u32) -> Option<Filed>
         ensures given { (fs : List FiledRow) → Files self.old fs
             → result ≡ find (λ f. f.conn == conn) fs }

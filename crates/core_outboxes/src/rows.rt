@@ -181,7 +181,6 @@ fn take_row(owing: &mut VecDeque<Owing>, arrival: u64) -> Option<Owing>
 }
 
 /// Files the reply of the target alone.
-#[inline(always)]
 pub(crate) fn file_target(
     target: Option<u64>,
     reply: Reply,

@@ -138,7 +138,6 @@ pub fn has_come(
 }
 
 /// The command that an Admit of this verdict does.
-#[inline(always)]
 fn command_done<'a>(verdict: &Verdict, call: Option<&'a Call>) -> Option<&'a Command>
     ensures { option_copied result
         ≡ (if logs.is_accepted verdict.now then logs.command_in
@@ -171,7 +170,6 @@ fn wait_begun(
 
 /// What the arrival of an entry waits for from now on, where the entry admits it; `call` is its call, and
 /// `standing` what stands before. Fails for want of memory, and only at an Admit.
-#[inline(always)]
 pub fn wait_by(
     config: &Config,
     standing: &Standing,
@@ -206,7 +204,6 @@ fn manager_ordered(config: &Config, command: Option<&Command>) -> Result<Option<
 
 /// What an entry orders, where it admits a command to a manager; `call` is the call that it admits. Fails for want
 /// of memory, and only at an Admit.
-#[inline(always)]
 pub fn ordered_by(
     config: &Config,
     entry: &Entry,

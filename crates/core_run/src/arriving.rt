@@ -15,7 +15,6 @@ use core_outboxes::{Owing, asks, head_of, number_of};
 use poa_base::{Call, Entry, WantMemory};
 
 /// The row of a call that asks a reply.
-#[inline(always)]
 fn row_of(arrival: u64, conn: u32, call: &Call) -> Option<Owing>
     ensures { result ≡ arriving.row_of arrival conn call.now }
 {
@@ -33,7 +32,6 @@ fn row_of(arrival: u64, conn: u32, call: &Call) -> Option<Owing>
 }
 
 /// A call for which there is room arrives.
-#[inline(always)]
 fn place(inside: &mut Inside, conn: u32, call: Call, size: u64)
     requires ready { IsReady inside.old }
     requires desk { HasRoomForOne conn inside.old.desk }
@@ -49,7 +47,6 @@ fn place(inside: &mut Inside, conn: u32, call: Call, size: u64)
 }
 
 /// A call of so many bytes arrives on a connection; or nothing changes.
-#[inline(always)]
 pub fn arrive(inside: &mut Inside, conn: u32, call: Call, size: u64) -> Result<(), WantMemory>
     requires kept { IsKept inside.old }
     requires may { MayArrive inside.old.limit (history inside.old) conn size call }

@@ -8,7 +8,6 @@ use core_outboxes::Filed;
 use poa_base::Entry;
 
 /// A connection is given its next reply, if there is one. Takes no memory.
-#[inline(always)]
 pub fn collect(inside: &mut Inside, conn: u32) -> Option<Filed>
     requires { IsKept inside.old }
     ensures kept { IsKept inside.new }

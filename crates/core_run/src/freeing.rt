@@ -17,7 +17,6 @@ use poa_base::Entry;
 use poa_history::workers::arrival_in;
 
 /// The request or trial of an arrival ends.
-#[inline(always)]
 fn landing(standing: &Standing, arrival: Option<u64>) -> Freed
     ensures { result ≡ frees.landing (seen standing.now) arrival }
 {
@@ -35,7 +34,6 @@ fn landing(standing: &Standing, arrival: Option<u64>) -> Freed
 }
 
 /// An incarnation ends.
-#[inline(always)]
 fn incarnating(standing: &Standing, begun: Stage) -> Freed
     ensures { result ≡ frees.incarnating (seen standing.now) begun }
 {
@@ -52,7 +50,6 @@ fn incarnating(standing: &Standing, begun: Stage) -> Freed
 }
 
 /// An etherealization ends.
-#[inline(always)]
 fn etherealizing(standing: &Standing, begun: Stage) -> Freed
     ensures { result ≡ frees.etherealizing (seen standing.now) begun }
 {
@@ -67,7 +64,6 @@ fn etherealizing(standing: &Standing, begun: Stage) -> Freed
 }
 
 /// What an entry frees of what holds calls, by what stands before it and what its worker had begun.
-#[inline(always)]
 pub fn freed_by(standing: &Standing, begun: Stage, entry: &Entry) -> Freed
     ensures { (c : Config) (run : ℕ) (past : List EntryOf)
         → AnswersAs c run past (seen standing.now) → begun ≡ stage_at past entry.now

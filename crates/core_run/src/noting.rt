@@ -8,7 +8,6 @@ use history_standing::Stage;
 use poa_base::Entry;
 
 /// Notes an entry, for which there is room, once what stands is that after it. Takes no memory.
-#[inline(always)]
 pub fn note(inside: &mut Inside, entry: Entry, stage: Stage, brought: Brought)
     requires room { HasRoomForEntry entry inside.old }
     requires halfway { IsHalfway (history inside.old) entry stage brought inside.old }

@@ -11,7 +11,6 @@ use history_standing::Stage;
 use poa_base::Entry;
 
 /// An entry of a connection, or the giving up of a worker, is noted. It changes nothing that stands. Takes no memory.
-#[inline(always)]
 pub fn quiet(inside: &mut Inside, entry: Entry)
     requires room { HasRoomForEntry entry inside.old }
     requires quiet { IsQuiet (history inside.old) entry inside.old }

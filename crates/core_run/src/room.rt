@@ -17,7 +17,6 @@ const WORKERS: usize = 32;
 
 /// How many entries may still come that take no memory, and some more; none where that is too many to count.
 #[tactic(auto, using(crate::proofs::Endings::workers_few))]
-#[inline(always)]
 fn most(inside: &Inside) -> Option<usize>
     ensures { IsSomeAnd result (λ n. to_come inside.now + 2 ≤ n) ⊎ (result ≡ None) }
 {
@@ -30,6 +29,20 @@ fn most(inside: &Inside) -> Option<usize>
         .checked_add(4)
 }
 
+/// Makes room in the journal for one entry more; all else is as it was.
+fn make_room_in_journal(inside: &mut Inside) -> Result<(), WantMemory>
+    requires { IsKept inside.old }
+    ensures space { OnOk result (HasSpace 2 inside.new) }
+    ensures whole { OnOk result (0 < inside.new.entries.spare) }
+    ensures kept { IsKept inside.new }
+    ensures desk { inside.new.desk ≡ inside.old.desk }
+    ensures tables { inside.new.tables ≡ inside.old.tables }
+    ensures life { life inside.new ≡ life inside.old }
+{
+    let most = most(inside).ok_or(WantMemory)?;
+    inside.entries.reserve(most)
+}
+
 /// Makes room for one entry more, whatever it is; all else is as it was.
 pub fn make_room(inside: &mut Inside) -> Result<(), WantMemory>
     requires { IsKept inside.old }
@@ -39,21 +52,7 @@ pub fn make_room(inside: &mut Inside) -> Result<(), WantMemory>
     ensures life { life inside.new ≡ life inside.old }
 {
     inside.tables.reserve()?;
-    let most = most(inside).ok_or(WantMemory)?;
-    inside.entries.reserve(most)
-}
-
-/// Makes room for one entry more with which no call and no connection comes; all else is as it was.
-#[inline(always)]
-fn make_room_in_journal(inside: &mut Inside) -> Result<(), WantMemory>
-    requires { IsKept inside.old }
-    ensures space { OnOk result (HasSpace 2 inside.new) }
-    ensures whole { OnOk result (0 < inside.new.entries.spare) }
-    ensures kept { IsKept inside.new }
-    ensures life { life inside.new ≡ life inside.old }
-{
-    let most = most(inside).ok_or(WantMemory)?;
-    inside.entries.reserve(most)
+    make_room_in_journal(inside)
 }
 
 /// Makes room for a call of a connection, and for its reply; all else is as it was.
@@ -69,7 +68,6 @@ pub fn make_room_for_call(inside: &mut Inside, conn: u32) -> Result<(), WantMemo
 }
 
 /// Whether an entry only ends what was begun.
-#[inline(always)]
 fn is_ending(entry: &Entry) -> bool
     ensures { result ≡ coming.is_ending entry.now }
 {
@@ -77,7 +75,6 @@ fn is_ending(entry: &Entry) -> bool
 }
 
 /// Whether an entry needs room in the journal alone.
-#[inline(always)]
 fn needs_journal_alone(entry: &Entry) -> bool
     ensures { result ≡ coming.needs_journal_alone entry.now }
 {
@@ -90,7 +87,6 @@ fn needs_journal_alone(entry: &Entry) -> bool
 /// Makes room for an entry of a worker; all else is as it was. One that only ends what was begun has its room since
 /// then, and takes no memory.
 #[tactic(auto, using(crate::proofs::Ready::ending_room, crate::proofs::Ready::ending_space, crate::proofs::Ready::ready_space, crate::proofs::Ready::ready_entries, crate::proofs::Ready::alone_room))]
-#[inline(always)]
 pub fn make_room_for(inside: &mut Inside, entry: &Entry) -> Result<(), WantMemory>
     requires kept { IsKept inside.old }
     requires follows { IsRun inside.old.config inside.old.run inside.old.limit

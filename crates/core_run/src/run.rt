@@ -92,7 +92,6 @@ impl Run {
     }
 
     /// A call of so many bytes arrives on a connection; or nothing changes.
-    #[inline(always)]
     pub fn arrive(&mut self, conn: u32, call: Call, size: u64) -> Result<(), WantMemory>
         requires { MayArrive self.old.limit self.old.history conn size call }
         ensures ok { OnOk result (self.new ≡ with_entry (Arrive conn size call) self.old) }
@@ -110,7 +109,6 @@ impl Run {
     }
 
     /// A connection is given its next reply, if it has one. Takes no memory.
-    #[inline(always)]
     pub fn collect(&mut self, conn: u32) -> Option<Filed>
         ensures { Gives conn self.old result self.new }
     {

@@ -16,7 +16,6 @@ use journal_entries::{Entries, EntryView, Row};
 use poa_base::{Config, Entry, Sid, Verdict, WantMemory};
 
 /// Whether an entry admits an arrival.
-#[inline(always)]
 fn admits(view: EntryView<'_>, arrival: u64) -> bool
     ensures { result ≡ turning.admits (entry_seen view.entry) arrival }
 {
@@ -42,7 +41,6 @@ fn last_admit(entries: &Entries, arrival: u64) -> Option<EntryView<'_>>
 }
 
 /// The servant that an Admit gives its arrival.
-#[inline(always)]
 fn servant_of(
     config: &Config,
     standing: &Standing,
@@ -65,7 +63,6 @@ fn servant_of(
 
 /// The servant of a request that a worker runs. `WantMemory` stands for a number that doesn't fit 32 bits, and is never
 /// answered where what was begun is only to be ended.
-#[inline(always)]
 pub fn servant_in(
     config: &Config,
     standing: &Standing,

@@ -12,7 +12,8 @@ use core_turns::Known;
 use history_standing::Stage;
 use poa_base::{Entry, WantMemory};
 
-/// The same, asked of all that is known.
+/// The entry that a worker makes next, asked of all that is known. It stands by itself, so that a turn that is told
+/// without it gets nothing ready for it.
 #[inline(never)]
 fn asked(inside: &mut Inside, worker: u32) -> Result<Option<Entry>, WantMemory>
     requires kept { IsKept inside.old }

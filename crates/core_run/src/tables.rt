@@ -59,7 +59,6 @@ impl Tables {
 
     /// An entry comes behind the journal's, for which there is room. It is given what the entry's worker had begun, and
     /// what the entry frees. Takes no memory.
-    #[inline(always)]
     pub fn advance(&mut self, entry: &Entry, entries: &Entries, stage: Stage, freed: Freed)
         requires calls { arrives entry.now ≡ true
             → vec_len self.old.calls.places < vec_capacity self.old.calls.places }

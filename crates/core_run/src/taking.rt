@@ -14,12 +14,11 @@ use crate::serving::servant_in;
 use crate::turning::{bring, call_at};
 use core_arrivals::workers;
 use core_state::Coming;
-use poa_base::{Entry, Verdict, WantMemory};
+use poa_base::{Entry, WantMemory};
 
 /// An entry of a worker is taken: all of it takes effect and it stands in the journal, or nothing changes. One that
 /// only ends what was begun is always taken.
-#[inline(always)]
-fn take_one(inside: &mut Inside, entry: Entry) -> Result<(), WantMemory>
+pub fn take(inside: &mut Inside, entry: Entry) -> Result<(), WantMemory>
     requires kept { IsKept inside.old }
     requires follows { IsRun inside.old.config inside.old.run inside.old.limit
         (entry ∷ history inside.old) }
@@ -53,26 +52,4 @@ fn take_one(inside: &mut Inside, entry: Entry) -> Result<(), WantMemory>
     )?;
     note(inside, entry, stage, brought);
     Ok(())
-}
-
-/// The same. Each frequent kind of entry goes a way of its own, so that on it nothing is got ready for the others.
-pub fn take(inside: &mut Inside, entry: Entry) -> Result<(), WantMemory>
-    requires kept { IsKept inside.old }
-    requires follows { IsRun inside.old.config inside.old.run inside.old.limit
-        (entry ∷ history inside.old) }
-    requires turn { is_turn entry ≡ true }
-    ensures kept { IsKept inside.new }
-    ensures ok { OnOk result (life inside.new ≡ with_entry entry (life inside.old)) }
-    ensures err { OnErr result (life inside.new ≡ life inside.old) }
-    ensures ends { is_ending entry ≡ true → IsOk result }
-{
-    match entry {
-        Entry::Run { .. } => take_one(inside, entry),
-        Entry::Done { .. } => take_one(inside, entry),
-        Entry::Admit {
-            verdict: Verdict::Serve(_),
-            ..
-        } => take_one(inside, entry),
-        _ => take_one(inside, entry),
-    }
 }

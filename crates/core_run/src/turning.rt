@@ -21,7 +21,6 @@ use poa_history::workers::arrival_in;
 use std::alloc::Global;
 
 /// The call of which an entry speaks: that of the arrival that it admits, or that its worker is at.
-#[inline(always)]
 pub fn call_at<'a>(
     entries: &'a Entries,
     known: &Calls,
@@ -40,7 +39,6 @@ pub fn call_at<'a>(
 }
 
 /// The call that an entry admits or runs.
-#[inline(always)]
 fn call_in<'a>(coming: &Coming<'a>) -> Option<&'a Call>
     ensures { option_copied result
         ≡ turning.call_in coming.now.entry.now (option_copied coming.now.call) }
@@ -52,7 +50,6 @@ fn call_in<'a>(coming: &Coming<'a>) -> Option<&'a Call>
 }
 
 /// The call that an entry admits.
-#[inline(always)]
 fn call_admitted<'a>(coming: &Coming<'a>) -> Option<&'a Call>
     ensures { (past : List EntryOf)
         → option_copied coming.now.call ≡ the_call_at past coming.now.entry.now
@@ -65,7 +62,6 @@ fn call_admitted<'a>(coming: &Coming<'a>) -> Option<&'a Call>
 }
 
 /// A request runs: its servant acts, and the outcome decides it.
-#[inline(always)]
 fn ran(
     alloc: Global,
     config: &Config,
@@ -93,7 +89,6 @@ fn ran(
 
 /// Any other entry: what it decides is told by what stood before it.
 #[tactic(auto, using(crate::proofs::Ends::wants_none))]
-#[inline(always)]
 fn told(
     alloc: Global,
     config: &Config,
@@ -126,7 +121,6 @@ fn told(
 }
 
 /// An entry of a worker changes what stands, and what it decides is told; or nothing changes.
-#[inline(always)]
 fn decide(
     alloc: Global,
     config: &Config,
@@ -149,7 +143,6 @@ fn decide(
 /// An entry of a worker changes what stands, and what it brings is told; or nothing changes. One with which what was
 /// begun only ends takes no memory.
 #[tactic(auto, using(crate::proofs::Ends::admits_none))]
-#[inline(always)]
 pub fn bring(
     alloc: Global,
     config: &Config,

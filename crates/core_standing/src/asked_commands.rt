@@ -15,7 +15,6 @@ use poa_base::{Answer, Call, Command, Config, Entry, Name, Sid, Verdict};
 use poa_history::calls::call_of;
 
 /// Whether the command was done.
-#[inline(always)]
 pub fn is_accepted(verdict: &Verdict) -> bool
     ensures { result ≡ logs.is_accepted verdict.now }
 {
@@ -27,7 +26,6 @@ pub fn is_accepted(verdict: &Verdict) -> bool
 }
 
 /// The command of a call.
-#[inline(always)]
 pub fn command_in<'a>(call: Option<&'a Call>) -> Option<&'a Command>
     ensures { option_copied result ≡ logs.command_in (option_copied call.entry) }
 {

@@ -108,7 +108,6 @@ fn etherealized(stage: Stage, standing: &mut Standing)
 }
 
 /// An Admit takes effect: the command is done, or the request begins.
-#[inline(always)]
 fn admitted(
     alloc: Global,
     config: &Config,
@@ -132,7 +131,6 @@ fn admitted(
 }
 
 /// What an entry changes, after the entries before it.
-#[inline(always)]
 fn change(
     alloc: Global,
     config: &Config,
@@ -168,7 +166,6 @@ fn change(
 }
 
 /// Whether something may have ended with an entry.
-#[inline(always)]
 fn may_end(entry: &Entry) -> bool
     ensures { result ≡ entries.may_end entry.now }
 {
@@ -184,7 +181,6 @@ fn may_end(entry: &Entry) -> bool
 }
 
 /// Whether the servant of an activation leaves with an entry.
-#[inline(always)]
 fn is_removal(entry: &Entry) -> bool
     ensures { result ≡ entries.is_removal entry.now }
 {
@@ -223,7 +219,6 @@ pub fn advance(
 }
 
 /// Whether an entry may begin an activation.
-#[inline(always)]
 fn may_begin(entry: &Entry) -> bool
     ensures { result ≡ entries.may_begin entry.now }
 {
@@ -234,7 +229,6 @@ fn may_begin(entry: &Entry) -> bool
 }
 
 /// Whether there is a number of 32 bits for the activation that an entry may begin.
-#[inline(always)]
 fn has_number(entry: &Entry, standing: &Standing) -> Result<(), WantMemory>
     ensures few { OnOk result
         (entries.may_begin entry.now ≡ true → length (seen standing.now).activations < 4294967296) }
@@ -248,7 +242,6 @@ fn has_number(entry: &Entry, standing: &Standing) -> Result<(), WantMemory>
 
 /// An entry is made after those before it, what has ended goes, and those of the activations that are over then are
 /// forgotten, where those that were over before it had been. It is given, and fails, as `advance`.
-#[inline(always)]
 pub fn advance_kept(
     alloc: Global,
     config: &Config,

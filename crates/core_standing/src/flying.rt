@@ -13,7 +13,6 @@ use poa_base::{Name, Path, Verdict, WantMemory};
 use std::alloc::Global;
 
 /// A request is admitted to the adapter of its key.
-#[inline(always)]
 fn add_request(
     standing: &mut Standing,
     arrival: u64,
@@ -102,7 +101,6 @@ fn add_incarnation(
 }
 
 /// What the Admit of a request begins.
-#[inline(always)]
 pub fn admit(
     alloc: Global,
     standing: &mut Standing,
@@ -128,7 +126,6 @@ pub fn admit(
 }
 
 /// What is in flight for an arrival is taken off.
-#[inline(always)]
 fn take_off(flights: &mut Vec<Flight>, arrival: u64)
     ensures { flights.new.items ≡ filter (λ f. not (f.arrival == arrival)) flights.old.items }
 {
@@ -136,7 +133,6 @@ fn take_off(flights: &mut Vec<Flight>, arrival: u64)
 }
 
 /// The request or trial of an arrival ends. Takes no memory.
-#[inline(always)]
 pub fn end_flight(standing: &mut Standing, arrival: Option<u64>)
     ensures { seen standing.new ≡ changes.without_flight arrival (seen standing.old) }
 {

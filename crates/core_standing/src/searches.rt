@@ -11,7 +11,6 @@ use history_standing::Activation;
 use poa_base::Sid;
 
 /// The activation of a number, where it isn't forgotten.
-#[inline(always)]
 pub fn activation_numbered(standing: &Standing, number: u32) -> Option<&Activation>
     ensures { option_copied result ≡ turns.activation_numbered (seen standing.now) number }
 {

@@ -113,7 +113,6 @@ fn by_removal(stage: Stage) -> Touched
 
 /// What an entry touches: of the others none leaves the map, behind a standing in which nothing is left to go, and
 /// none comes or changes.
-#[inline(always)]
 pub fn touched_by(entry: &Entry, stage: Stage, flights: &[Flight]) -> Touched
     ensures leaves { (c : Conf) (run : ℕ) (past : List EntryOf) (s : Stood)
         → s.flights ≡ flights.now

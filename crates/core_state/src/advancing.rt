@@ -15,7 +15,6 @@ use poa_base::{Call, Command, Config, Entry, Outcome, Verdict, WantMemory};
 use std::alloc::Global;
 
 /// The command that an Admit does.
-#[inline(always)]
 fn done<'a>(call: Option<&'a Call>, verdict: &Verdict) -> Option<&'a Command>
     ensures { option_copied result
         ≡ (if logs.is_accepted verdict.now then logs.command_in
@@ -29,7 +28,6 @@ fn done<'a>(call: Option<&'a Call>, verdict: &Verdict) -> Option<&'a Command>
 }
 
 /// Whether the command may need a row of its own in what is set.
-#[inline(always)]
 fn grows(command: Option<&Command>) -> bool
     ensures { result ≡ may_grow (option_copied command.entry) }
 {
@@ -40,7 +38,6 @@ fn grows(command: Option<&Command>) -> bool
 }
 
 /// An arrival is admitted. A command that sets something changes nothing that stands.
-#[inline(always)]
 fn admit(
     alloc: Global,
     config: &Config,
@@ -70,7 +67,6 @@ fn admit(
 }
 
 /// A trial ends, and may have made the child.
-#[inline(always)]
 fn tried(
     alloc: Global,
     config: &Config,
@@ -95,7 +91,6 @@ fn tried(
 }
 
 /// A servant runs, is brought or leaves, or a request ends.
-#[inline(always)]
 fn served(
     alloc: Global,
     config: &Config,
@@ -133,7 +128,6 @@ fn served(
 /// An entry of a worker comes, with what the worker had begun, the call that it speaks of and the servant that
 /// runs: all of it takes effect, or nothing. At a Run it gives the servant's outcome. Only an Admit, a trial that
 /// made the child, a Run and an incarnation of a fresh servant may want memory.
-#[inline(always)]
 pub fn advance(
     alloc: Global,
     config: &Config,

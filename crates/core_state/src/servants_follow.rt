@@ -19,7 +19,6 @@ use std::alloc::Global;
 /// its etherealization its state is stored and it goes. Every other entry leaves them. The call and the
 /// servant that come with it are those of what its worker serves, and `standing` is what stood. `WantMemory`,
 /// at a Run or an incarnation alone: no memory was left, and every state is as it was.
-#[inline(always)]
 pub fn advance(
     alloc: Global,
     config: &Config,

@@ -11,7 +11,6 @@ use history_standing::{Activation, Phase};
 use poa_base::{Config, Name, Sid, Verdict, WantMemory};
 
 /// The servant of an activation.
-#[inline(always)]
 fn servant_of(activation: Option<&Activation>) -> Option<Sid>
     ensures { result ≡ states.servant_of_activation (option_copied activation.entry) }
 {
@@ -25,7 +24,6 @@ fn servant_of(activation: Option<&Activation>) -> Option<Sid>
 }
 
 /// The servant of this activation's number.
-#[inline(always)]
 fn servant_at(standing: &Standing, number: u32) -> Option<Sid>
     ensures { result ≡ states.servant_of_activation
         (turns.activation_numbered (seen standing.now) number) }
@@ -45,7 +43,6 @@ fn servant_named(config: &Config, name: &Name) -> Result<Option<Sid>, WantMemory
 
 /// The servant of an arrival that was admitted to one, by the verdict on it. `WantMemory` stands for a number
 /// that doesn't fit 32 bits.
-#[inline(always)]
 pub fn servant_by(
     config: &Config,
     standing: &Standing,

@@ -19,7 +19,6 @@ pub struct Freed {
 
 impl Freed {
     /// Nothing.
-    #[inline(always)]
     pub fn nothing() -> Freed
         ensures { result ≡ nothing }
     {
@@ -32,7 +31,6 @@ impl Freed {
     }
 
     /// Whatever is held.
-    #[inline(always)]
     pub fn everything() -> Freed
         ensures { result ≡ everything }
     {

@@ -29,7 +29,6 @@ pub struct HeldQueue {
 }
 
 /// The request or locate that comes into the queue with an entry, where one does.
-#[inline(always)]
 fn received(entry: &Entry, arrivals: u64, stage: Stage) -> Option<u64>
     ensures received { (past : List EntryOf) → arrivals ≡ arrivals_in past
         → stage ≡ stage_at past entry.now
@@ -110,7 +109,6 @@ impl HeldQueue {
 
     /// Takes in an entry of the journal: it is given how many calls arrived before, what the entry's worker had begun,
     /// and what the entry frees. Takes no memory.
-    #[inline(always)]
     pub fn advance(&mut self, entry: &Entry, arrivals: u64, stage: Stage, freed: Freed)
         requires { may_queue entry.now ≡ true → HasRoom self.old.ready.heap }
         ensures held { HeldFollows entry.now arrivals stage freed self.old self.new }

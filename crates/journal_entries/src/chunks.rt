@@ -54,7 +54,6 @@ impl<T: Drop> Chunks<T> {
     }
 
     /// How many values there are.
-    #[inline(always)]
     pub fn len(&self) -> usize
         ensures { result ≡ length self.now.0 }
     {
@@ -62,7 +61,6 @@ impl<T: Drop> Chunks<T> {
     }
 
     /// The value at a place, lent.
-    #[inline(always)]
     pub fn get(&self, place: usize) -> Option<&T>
         ensures { option_copied result ≡ slice_get self.now.0 place }
     {
@@ -73,7 +71,6 @@ impl<T: Drop> Chunks<T> {
     }
 
     /// How many values it can still take.
-    #[inline(always)]
     fn room(&self) -> usize
         ensures { length self.now.0 + result ≡ self.now.1 }
     {
@@ -109,7 +106,6 @@ impl<T: Drop> Chunks<T> {
     }
 
     /// Puts a value at the end. Takes no memory.
-    #[inline(always)]
     pub fn push(&mut self, value: T)
         requires { length self.old.0 < self.old.1 }
         ensures items { self.new.0 ≡ self.old.0 ++ value ∷ [] }
@@ -121,7 +117,6 @@ impl<T: Drop> Chunks<T> {
 }
 
 /// The value at a place of a slice.
-#[inline(always)]
 fn at<T>(values: &[T], place: usize) -> Option<&T>
     ensures { option_copied result ≡ slice_get values.now place }
 {
@@ -129,7 +124,6 @@ fn at<T>(values: &[T], place: usize) -> Option<&T>
 }
 
 /// Where the last chunk is full, an empty one takes its place. Takes no memory.
-#[inline(always)]
 fn turn_over<T>(full: &mut Vec<Vec<T>>, last: &mut Vec<T>, spare: &mut Vec<Vec<T>>)
     requires chunked { IsChunked full.old last.old spare.old }
     requires empty { vec_len last.old ≡ 4096 → 0 < vec_len spare.old }

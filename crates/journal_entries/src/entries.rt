@@ -49,7 +49,6 @@ impl Entries {
     }
 
     /// The entry at a place.
-    #[inline(always)]
     pub fn get(&self, place: usize) -> Option<EntryView<'_>>
         ensures { option_map seen result ≡ slice_get self.now.items place }
     {
@@ -89,7 +88,6 @@ impl Entries {
 
     /// Puts an entry at the end. Takes no memory. What may still be kept whole is as before where the entry isn't.
     #[tactic(auto, using(crate::proofs::Rowing::within_brief))]
-    #[inline(always)]
     pub fn push(&mut self, entry: Entry)
         requires { HasRoomFor entry self.old }
         ensures items { self.new.items ≡ self.old.items ++ entry ∷ [] }

@@ -57,7 +57,6 @@ pub type EntryView<'a> = Row<&'a Entry>;
 
 impl Row<usize> {
     /// The row of an entry; none where it has to be kept whole.
-    #[inline(always)]
     pub(crate) fn of(entry: &Entry) -> Option<Self>
         ensures entry { IfSome result (λ row. (wholes : List EntryOf) → entry_of wholes row ≡ entry.now) }
         ensures within { IfSome result (λ row. (many : ℕ) → IsWithin many row) }
@@ -103,7 +102,6 @@ impl Row<usize> {
     }
 
     /// The entry of the row, given those that are kept whole.
-    #[inline(always)]
     pub(crate) fn view(self, wholes: &Chunks<Entry>) -> Option<EntryView<'_>>
         requires { IsWithin (length wholes.now.0) self }
         ensures { option_map seen result ≡ Some (entry_of wholes.now.0 self) }
@@ -150,7 +148,6 @@ impl Row<usize> {
 
 impl<'a> Row<&'a Entry> {
     /// The call that arrives with the entry, if one does.
-    #[inline(always)]
     pub fn call(self) -> Option<&'a Call>
         ensures { option_copied result ≡ call_in (seen self.entry) }
     {

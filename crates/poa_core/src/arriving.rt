@@ -32,7 +32,6 @@ fn refuse(run: &mut Run, conn: u32, size: u64) -> ArriveFault
 
 /// A call of so many bytes arrives on a connection that is open, and gets its number; or the run is full, or
 /// nothing changes.
-#[inline(always)]
 pub fn arrive(run: &mut Run, conn: u32, call: Call, size: u64) -> Result<u64, ArriveFault>
     requires conn { IsOpen run.old.history conn }
     requires size { IsSize size }

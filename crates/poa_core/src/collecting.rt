@@ -6,7 +6,6 @@ use crate::collected::Collected;
 use core_run::Run;
 
 /// A connection is given its next reply, which is one to a call of its kind. Takes no memory.
-#[inline(always)]
 pub fn collect(run: &mut Run, conn: u32) -> Collected
     ensures collected { answers.Collects conn run.old result run.new }
     ensures fits { FitsItsCall run.old.history result }

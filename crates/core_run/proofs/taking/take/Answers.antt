@@ -4,7 +4,7 @@ use Rattle.core_run.specs.Agrees.{history, opened_in}
 use Rattle.core_run.proofs.Endings.{ending_stage, ends_only}
 use Rattle.core_run.proofs.Keeping.{asked_then, runs_still, begun_still, left_still, turn_kept}
 use Rattle.core_run.proofs.Filed.{filed_as}
-use Rattle.core_run.proofs.taking.take_one.Goals as goal
+use Rattle.core_run.proofs.taking.take.Goals as goal
 
 pub bring-requires : goal.bring-requires
 bring-requires c =
