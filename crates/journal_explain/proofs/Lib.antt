@@ -1,6 +1,8 @@
 mod Rows
 mod Turned
 mod Standing
+mod Living
+mod Begun
 mod Going
 mod Beginning
 mod Watched
