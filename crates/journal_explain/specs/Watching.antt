@@ -114,9 +114,13 @@ Begins which past place e old new = new ≡ old
 
 -- which activation serves the call with the next entry of a run, and whether it is active before it
 pub record IsServed (past : Life) (e : Entry) (old new : Trail) : Type 0 where
+  pub name : new.name ≡ old.name
+  pub call : new.call ≡ old.call
+  pub adapter : new.adapter ≡ old.adapter
+  pub steps : new.steps.items ≡ old.steps.items
+  pub wait : new.wait ≡ old.wait
   pub server : new.server ≡ server_with e old.name.arrival old.server
   pub active : new.active ≡ serves past.config past.run past.history new.server
-  pub rest : new ≡ record old { server = new.server; active = new.active }
 
 -- what the next entry of a run, at this place, is to the call, by the rows of the managers; where it has it served, this entry
 -- began the activation that serves it

@@ -1,7 +1,8 @@
 //! Calls explained from a journal: the adapter that each asks, what happened to it with each entry, what it waited for, which row
-//! of the table of verdicts decided it, and its reply; or of all calls what came of them. `specs/Rows.antt` has the rows by their
-//! names, `specs/Managers.antt` since when the managers are in their states, `specs/Adapters.antt` the adapter of a call,
-//! `specs/Serving.antt` the activation that serves it, `specs/Stories.antt` what is told of a call, `specs/Objects.antt` what of an object, and `specs/Outcomes.antt` what came of all.
+//! of the table of verdicts decided it, the activation that serves it, and its reply; or of all calls what came of them.
+//! `specs/Rows.antt` has the rows by their names, `specs/Managers.antt` since when the managers are in their states,
+//! `specs/Adapters.antt` the adapter of a call, `specs/Serving.antt` its activation, `specs/Stories.antt` what is told of a call,
+//! `specs/Objects.antt` what of an object, and `specs/Outcomes.antt` what came of all.
 #![tactic(auto)]
 
 mod activity;

@@ -1,5 +1,5 @@
 //! The activation by which a request is served.
-ghost use Rattle.std.specs.Prelude.{◌≡◌};
+ghost use Rattle.std.specs.Prelude.{◌≡◌, ◌&&◌, not};
 ghost use Rattle.journal_explain.specs.Serving as serving;
 
 use crate::activity::is_serving;
@@ -66,7 +66,15 @@ pub(crate) fn ended(run: &Run, server: Option<u32>, active: bool) -> Option<Even
         (serving.serves run.now.config run.now.run run.now.history server) }
 {
     match server {
-        Some(number) if active && !is_serving(run, number) => Some(Event::Ends(number)),
+        Some(number) if has_ended(run, number, active) => Some(Event::Ends(number)),
         _ => None,
     }
+}
+
+/// Whether an activation isn't active in a run, where it was before.
+fn has_ended(run: &Run, number: u32, active: bool) -> bool
+    ensures { result ≡ active && not
+        (serving.is_serving run.now.config run.now.run run.now.history number) }
+{
+    active && !is_serving(run, number)
 }

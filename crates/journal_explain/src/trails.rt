@@ -51,8 +51,8 @@ pub(crate) fn note_each(
     managers: &Managers,
     trails: &mut Vec<Trail>,
 ) -> Result<(), WantMemory>
-    ensures { OnOk result
-        (AllZip (Notes run.now entry.now place begun managers.now) trails.old.items trails.new.items) }
+    ensures { OnOk result (AllZip
+        (Notes run.now entry.now place begun managers.now) trails.old.items trails.new.items) }
 {
     for trail in trails.iter_mut() {
         note(alloc, run, entry, place, begun, managers, trail)?;
