@@ -5,6 +5,7 @@ mod Living
 mod Begun
 mod Going
 mod Beginning
+mod Looked
 mod Watched
 mod AtFirst
 mod Decided
