@@ -66,7 +66,15 @@ impl Watch {
     {
         let begun = self.beginnings.told(served_with(entry));
         begin(alloc, &self.asked, run, place, entry, &mut self.trails)?;
-        note_each(alloc, run, entry, place, begun, &self.managers, &mut self.trails)?;
+        note_each(
+            alloc,
+            run,
+            entry,
+            place,
+            begun,
+            &self.managers,
+            &mut self.trails,
+        )?;
         self.managers.note(run, entry, place)?;
         if self.asked.is_all() {
             note_came(alloc, run, entry, place, &mut self.came)?;
