@@ -113,6 +113,11 @@ ends_on WriteFault why got left ends = tt
 ends_on WantMemory why got left ends = tt
 ends_on _ why got left ends = absurd ends
 
+-- closing reads nothing
+pub never_read : (end : End) (why : Stop) (i : Intake) (replies : List ℕ) (h k : Option (List ℕ)) → Closes end why i replies h k → end ≡ ReadFault → ⊥
+never_read end why i replies h k (closes minor first gave ends) is = subst (λ (e : End). EndsSo e why) is ends
+never_read end why i replies h k (unknown want held) is = let e : WantMemory ≡ ReadFault = sym want ∙ is in cc
+
 -- a piece was taken behind what was served
 module _ {A : Type 0} (m : Meaning A) (start : A) (l k n h j : Option (List ℕ)) (taken have : ℕ) (old : Server A) (r : Runs m start l k h j taken have old)
     (piece : List ℕ) (took : IfTold k n (λ before after. before ≡ piece ++ after)) (new : Server A) where

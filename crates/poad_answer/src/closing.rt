@@ -1,5 +1,5 @@
 //! How serving ends: the replies that wait are written, and the message that closes the stream.
-ghost use Rattle.std.specs.Prelude.{◌≡◌, ◌≤◌, ◌++◌, ℕ, List, [], IfOk, false};
+ghost use Rattle.std.specs.Prelude.{◌≡◌, ◌≢◌, ◌≤◌, ◌++◌, ℕ, List, [], IfOk, false};
 ghost use Rattle.outside.specs.Cause.{HasCause};
 ghost use Rattle.outside.specs.Told.{IfTold};
 ghost use Rattle.poad_files.specs.Delivery.{Hands};
@@ -107,7 +107,8 @@ fn has_closing(why: Stop) -> bool
 // How serving ends that stopped so.
 fn end_of(why: Stop) -> End
     requires { IsOver why }
-    ensures { EndsSo result why }
+    ensures ends { EndsSo result why }
+    ensures no_fault { result ≢ End.WriteFault }
 {
     match why {
         Stop::Waits { .. } => unreachable!(),
