@@ -1,5 +1,5 @@
 -- A watch that has seen no entry yet.
-use Rattle.std.proofs.Common.{◌≡◌, ℕ, Bool, true, false, if◌then◌else◌, List, [], map, All, Option, Some, None, refl, sym, ◌∙◌, ap, subst}
+use Rattle.std.proofs.Common.{◌≡◌, Bool, true, false, if◌then◌else◌, List, [], map, All, Option, Some, None, refl, sym, ◌∙◌, ap, subst}
 use Rattle.std.proofs.lemmas.List.Elements.{All-from_recursion}
 use Rattle.poa_base.specs.declared.Entry.{Entry}
 use Rattle.poa_history.specs.Life.{Life, opened}
@@ -12,6 +12,7 @@ use Rattle.journal_explain.specs.Explaining.{HasSeen, HasWatched, SeesWhereLegal
 use Rattle.journal_explain.specs.Managers.{since_of}
 use Rattle.journal_explain.specs.Naming.{is_all, names_in}
 use Rattle.journal_explain.specs.Objects.{changes_in, slot_asked, stored_asked}
+use Rattle.journal_explain.specs.Serving.{begins_in, begun_in}
 use Rattle.journal_explain.specs.Watching.{since_in}
 
 abbrev no_calls : List Came
@@ -22,12 +23,18 @@ none_came true = refl
 none_came false = refl
 
 pub watched_first : (life : Life) (w : Watch) → life.history ≡ [] → w.trails.items ≡ [] → w.managers ≡ [] → w.came.items ≡ []
-    → w.object.opens ≡ slot_asked w.asked life.config life.run life.history
+    → w.beginnings.first ≡ begun_in life.config life.run life.history → w.beginnings.count ≡ begun_in life.config life.run life.history
+    → w.beginnings.rows.items ≡ [] → w.object.opens ≡ slot_asked w.asked life.config life.run life.history
     → w.object.stored ≡ stored_asked w.asked life.config life.run (opened life) life.history
     → w.object.slot ≡ slot_asked w.asked life.config life.run life.history → w.object.changes.items ≡ [] → HasWatched life w
-watched_first life w new no_trails unturned none opens stored slot unchanged = record {
+watched_first life w new no_trails unturned none first count unbegun opens stored slot unchanged = record {
   managers = λ m.
       ap (λ (rows : List Since). since_in rows m) unturned ∙ sym (ap (λ (h : List Entry). since_of life.config h m) new);
+  beginnings = record {
+    first = first ∙ ap (begun_in life.config life.run) new;
+    count = count;
+    rows = unbegun ∙ sym (ap (begins_in life.config life.run) new);
+  };
   names = ap (map (λ (t : Trail). t.name)) no_trails ∙ sym (ap (names_in w.asked) new);
   each = subst (λ (ts : List Trail). All (HasSeen life) ts) (sym no_trails) (All-from_recursion (HasSeen life) [] tt);
   object = record {

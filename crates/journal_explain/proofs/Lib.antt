@@ -1,8 +1,11 @@
 mod Rows
 mod Turned
 mod Standing
+mod Living
+mod Begun
 mod Going
 mod Beginning
+mod Looked
 mod Watched
 mod AtFirst
 mod Decided

@@ -20,6 +20,7 @@ use Rattle.core_outboxes.specs.declared.filed.Filed.{Filed}
 use Rattle.journal_audit.specs.Judging.{Follows}
 use Rattle.core_turns.specs.Looks.{looked}
 use Rattle.journal_explain.specs.declared.adapter.Adapter.{Adapter}
+use Rattle.journal_explain.specs.declared.beginnings.Beginnings.{Beginnings}
 use Rattle.journal_explain.specs.declared.selection.Selection.{Selection}
 use Rattle.journal_explain.specs.declared.call_name.CallName.{CallName}
 use Rattle.journal_explain.specs.declared.came.Came.{Came}
@@ -39,8 +40,10 @@ use Rattle.journal_explain.specs.Managers.{held_by, holder, ruled_by, ruler}
 use Rattle.journal_explain.specs.Naming.{asks, is_all, name_of, names_in}
 use Rattle.journal_explain.specs.Objects.{changed_with, changes_in, command_by, doing_of, slot_asked, stored_asked}
 use Rattle.journal_explain.specs.Outcomes.{calls_in, came_with}
-use Rattle.journal_explain.specs.Stories.{GoesOn, IfArrived, IsNews, IsStory, collected_by, event_of, step_at, wait_by, wait_of}
-use Rattle.journal_explain.specs.Watching.{Begins, BeginsIf, BeginsOne, Gets, HasGiven, HasLooked, HasNoted, KnowsManagers, Looks, Notes, Traces, handed_to, told_in}
+use Rattle.journal_explain.specs.Serving.{begun_for, ended_by, ended_where, served_with, server_in, server_with, serves}
+use Rattle.journal_explain.specs.Stories.{GoesOn, IfArrived, IsNews, IsStory, collected_by, event_of, event_with, step_at, wait_by, wait_of}
+use Rattle.journal_explain.specs.Watching.{Begins, BeginsIf, BeginsOne, Counts, Gets, HasGiven, HasLooked, HasNoted, KnowsManagers, Looks, Notes, Traces, begun_by, handed_to, told_in}
+use Rattle.journal_explain.proofs.Begun.{begun_is, counted}
 use Rattle.journal_explain.proofs.Going.{named_still}
 use Rattle.journal_explain.proofs.Turned.{knows_next, told_is}
 
@@ -74,6 +77,7 @@ pub record IsBegun (past : Life) (e : Entry) (t : Trail) : Type 0 where
   pub steps : IsStory past.config past.run (opened past) past.history t.name.arrival t.steps.items
   pub wait : t.wait ≡ wait_of past.config past.run past.history t.name.arrival
   pub adapter : t.adapter ≡ adapter_for past.config past.run (e ∷ past.history) t.name.arrival
+  pub server : t.server ≡ server_in past.history t.name.arrival
   pub arrived : t.name.arrival < arrivals (e ∷ past.history)
 
 -- what stood when a call arrived stays
@@ -89,17 +93,20 @@ still_begun past e t seen = record {
   steps = seen.steps;
   wait = seen.wait;
   adapter = seen.adapter ∙ sym (adapter_kept past.config past.run e past.history t.name.arrival seen.arrived);
+  server = seen.server;
   arrived = (let before = seen.arrived in let kept = arrivals_kept e past.history in omega (arith, before, kept));
 }
 
 fresh_begun : (past : Life) (e : Entry) (t : Trail) → t.name.arrival ≡ arrivals past.history → t.steps.items ≡ [] → t.wait ≡ None
     → arrivals past.history < arrivals (e ∷ past.history) → call_of (e ∷ past.history) (arrivals past.history) ≡ Some t.call
-    → t.adapter ≡ adapter_for past.config past.run (e ∷ past.history) (arrivals past.history) → IsBegun past e t
-fresh_begun past e t here none free more came stood = record {
+    → t.adapter ≡ adapter_for past.config past.run (e ∷ past.history) (arrivals past.history)
+    → t.server ≡ server_in past.history (arrivals past.history) → IsBegun past e t
+fresh_begun past e t here none free more came stood served = record {
   call = ap (call_of (e ∷ past.history)) here ∙ came;
   steps = untold past.config past.run (opened past) past.history t.name.arrival t.steps.items (omega (arith, here)) none;
   wait = free ∙ sym (unwaited past.config past.run past.history t.name.arrival (omega (arith, here)));
   adapter = stood ∙ ap (adapter_for past.config past.run (e ∷ past.history)) (sym here);
+  server = served ∙ ap (server_in past.history) (sym here);
   arrived = omega (arith, here, more);
 }
 
@@ -122,7 +129,8 @@ module _ (past : Life) (e : Entry) (which : Selection) (olds begun : List Trail)
 
   one_more : (name : CallName) (call : Call) (adapter : Option Adapter) → adapter ≡ adapter_for past.config past.run (e ∷ past.history) (arrivals past.history)
       → call_of (e ∷ past.history) (arrivals past.history) ≡ Some call → name.arrival ≡ arrivals past.history → arrivals past.history < arrivals (e ∷ past.history)
-      → names_in which (e ∷ past.history) ≡ names_in which past.history ++ name ∷ [] → BeginsOne name call adapter olds begun → AreBegun past e which begun
+      → names_in which (e ∷ past.history) ≡ names_in which past.history ++ name ∷ []
+      → BeginsOne name call adapter (server_in past.history (arrivals past.history)) olds begun → AreBegun past e which begun
   one_more name call adapter stood came here more is b = record {
     names =
         ap (map (λ (t : Trail). t.name)) b.behind
@@ -131,13 +139,13 @@ module _ (past : Life) (e : Entry) (which : Selection) (olds begun : List Trail)
     each =
         subst (λ (ts : List Trail). All (IsBegun past e) ts) (sym b.behind)
         (All-push (IsBegun past e) olds b.trail (All-weaker (HasSeen past) (IsBegun past e) (still_begun past e) olds each)
-        (fresh_begun past e b.trail (ap (λ (n : CallName). n.arrival) b.named ∙ here) b.steps b.wait more (came ∙ ap Some (sym b.came)) (b.adapter ∙ stood)));
+        (fresh_begun past e b.trail (ap (λ (n : CallName). n.arrival) b.named ∙ here) b.steps b.wait more (came ∙ ap Some (sym b.came)) (b.adapter ∙ stood) b.served));
   }
 
   begun_if : (b : Bool) (name : CallName) (call : Call) (adapter : Option Adapter) → adapter ≡ adapter_for past.config past.run (e ∷ past.history) (arrivals past.history)
       → call_of (e ∷ past.history) (arrivals past.history) ≡ Some call → name.arrival ≡ arrivals past.history → arrivals past.history < arrivals (e ∷ past.history)
       → names_in which (e ∷ past.history) ≡ (if b then names_in which past.history ++ name ∷ [] else names_in which past.history)
-      → BeginsIf b name call adapter olds begun → AreBegun past e which begun
+      → BeginsIf b name call adapter (server_in past.history (arrivals past.history)) olds begun → AreBegun past e which begun
   begun_if true name call adapter stood came here more is b = one_more name call adapter stood came here more is b
   begun_if false name call adapter stood came here more is same = others same is
 
@@ -157,11 +165,12 @@ begun_each past e which olds begun each names same = others past e which olds be
 -- one trail
 module _ (past : Life) (e : Entry) (place : ℕ) (here : place ≡ length past.history) (follows : Follows past e) (filed : Option Filed)
     (handed : (r : ℕ) → handed_to filed r ≡ collected_by past.config past.run (opened past) past.history e r) where
-  -- by the rows of the managers before the entry and behind it
-  seen_one : (rows after : List Since) → KnowsManagers past rows → KnowsManagers (with_entry e past) after
-      → (old noted given new : Trail) → IsBegun past e old → Notes past e place rows old noted → Gets filed place noted given
+  -- by the rows of the managers before the entry and behind it, and by the entry that began the activation that serves it
+  seen_one : (from : Option ℕ) → from ≡ begun_for past.config past.run past.history (served_with e)
+      → (rows after : List Since) → KnowsManagers past rows → KnowsManagers (with_entry e past) after
+      → (old noted given new : Trail) → IsBegun past e old → Notes past e place from rows old noted → Gets filed place noted given
       → Looks (with_entry e past) place after given new → HasSeen (with_entry e past) new
-  seen_one rows after knows knows_after old noted given new begun notes gets looks =
+  seen_one from from_is rows after knows knows_after old noted given new begun notes gets looks =
       let c = past.config in
       let run = past.run in
       let op = opened past in
@@ -170,12 +179,21 @@ module _ (past : Life) (e : Entry) (place : ℕ) (here : place ≡ length past.h
       let event = event_of c run h e r in
       let manager = ruled_by c run h e r in
       let reply = collected_by c run op h e r in
+      let ends = ended_by c run h e r in
       let first : noted.name.arrival ≡ r = ap (λ (n : CallName). n.arrival) notes.name in
       let second : given.name.arrival ≡ r = ap (λ (n : CallName). n.arrival) gets.name ∙ first in
       let same : new.name.arrival ≡ r = ap (λ (n : CallName). n.arrival) looks.name ∙ second in
       let waits : new.wait ≡ wait_of c run (e ∷ h) r = looks.wait ∙ ap (wait_of c run (e ∷ h)) second in
-      let by_rows : old.steps.items ++ step_at place event (told_in past rows (ruler c run h e r)) ≡ old.steps.items ++ step_at place event manager =
-      ap (λ (m : Option Tenure). old.steps.items ++ step_at place event m) (told_is past rows knows (ruler c run h e r)) in
+      let served : given.server ≡ server_in (e ∷ h) r = gets.server ∙ (notes.server ∙ ap (server_with e r) begun.server) in
+      let active : given.active ≡ serves c run h (server_in (e ∷ h) r) =
+      gets.active ∙ (notes.active ∙ ap (serves c run h) (notes.server ∙ ap (server_with e r) begun.server)) in
+      let ended : ended_where given.server given.active (serves c run (e ∷ h) given.server) ≡ ends =
+      ap₂ (λ (s : Option ℕ) (a : Bool). ended_where s a (serves c run (e ∷ h) s)) served active in
+      let by_rows : old.steps.items ++ step_at place (event_with c run h e from r) (told_in past rows (ruler c run h e r))
+      ≡ old.steps.items ++ step_at place event manager =
+      ap₂ (λ (b : Option ℕ) (m : Option Tenure). old.steps.items ++ step_at place (event_with c run h e b r) m) from_is
+      (told_is past rows knows (ruler c run h e r)) in
+      let more : List Step = step_at place ends None ++ looks.news in
       let goes : GoesOn c run op h e r old.steps.items new.steps.items = record {
         news = looks.news;
         waits =
@@ -187,12 +205,14 @@ module _ (past : Life) (e : Entry) (place : ℕ) (here : place ≡ length past.h
             (told_is (with_entry e past) after knows_after (holder new.wait)) looks.is_news)));
         told =
             looks.steps
-            ∙ (ap (λ (s : List Step). s ++ looks.news) (gets.told
+            ∙ (ap (λ (o : Option Event). given.steps.items ++ (step_at place o None ++ looks.news)) ended
+            ∙ (ap (λ (s : List Step). s ++ more) (gets.told
             ∙ ap₂ (λ (s : List Step) (o : Option Event). s ++ step_at place o None) (notes.told follows ∙ by_rows)
             (ap (handed_to filed) first ∙ handed r))
-            ∙ (append_assoc (old.steps.items ++ step_at place event manager) (step_at place reply None) looks.news
-            ∙ (append_assoc old.steps.items (step_at place event manager) (step_at place reply None ++ looks.news)
-            ∙ ap (λ (k : ℕ). old.steps.items ++ (step_at k event manager ++ (step_at k reply None ++ looks.news))) here)));
+            ∙ (append_assoc (old.steps.items ++ step_at place event manager) (step_at place reply None) more
+            ∙ (append_assoc old.steps.items (step_at place event manager) (step_at place reply None ++ more)
+            ∙ ap (λ (k : ℕ). old.steps.items
+            ++ (step_at k event manager ++ (step_at k reply None ++ (step_at k ends None ++ looks.news)))) here))));
       } in
       let story : IsStory c run op (e ∷ h) r new.steps.items =
       subst (λ (b : Bool). IfArrived b ((before : List Step) × IsStory c run op h r before × GoesOn c run op h e r before new.steps.items)
@@ -202,23 +222,25 @@ module _ (past : Life) (e : Entry) (place : ℕ) (here : place ≡ length past.h
         steps = subst (λ (k : ℕ). IsStory c run op (e ∷ h) k new.steps.items) (sym same) story;
         wait = waits ∙ ap (wait_of c run (e ∷ h)) (sym same);
         adapter = looks.adapter ∙ (gets.adapter ∙ (notes.adapter ∙ (begun.adapter ∙ ap (adapter_for c run (e ∷ h)) (sym same))));
+        server = looks.server ∙ (served ∙ ap (server_in (e ∷ h)) (sym same));
         arrived = subst (λ (k : ℕ). k < arrivals (e ∷ h)) (sym same) begun.arrived;
       }
 
-  seen_each : (rows after : List Since) → KnowsManagers past rows → KnowsManagers (with_entry e past) after
-      → (olds noted givens news : List Trail) → AllByRecursion (IsBegun past e) olds → AllZip (Notes past e place rows) olds noted
+  seen_each : (from : Option ℕ) → from ≡ begun_for past.config past.run past.history (served_with e)
+      → (rows after : List Since) → KnowsManagers past rows → KnowsManagers (with_entry e past) after
+      → (olds noted givens news : List Trail) → AllByRecursion (IsBegun past e) olds → AllZip (Notes past e place from rows) olds noted
       → AllZip (Gets filed place) noted givens → AllZip (Looks (with_entry e past) place after) givens news
       → AllByRecursion (HasSeen (with_entry e past)) news
-  seen_each rows after knows knows_after [] [] [] [] begun notes gets looks = tt
-  seen_each rows after knows knows_after [] [] [] (n ∷ news) begun notes gets looks = absurd looks
-  seen_each rows after knows knows_after [] [] (g ∷ givens) news begun notes gets looks = absurd gets
-  seen_each rows after knows knows_after [] (m ∷ noted) givens news begun notes gets looks = absurd notes
-  seen_each rows after knows knows_after (o ∷ olds) [] givens news begun notes gets looks = absurd notes
-  seen_each rows after knows knows_after (o ∷ olds) (m ∷ noted) [] news begun notes gets looks = absurd gets
-  seen_each rows after knows knows_after (o ∷ olds) (m ∷ noted) (g ∷ givens) [] begun notes gets looks = absurd looks
-  seen_each rows after knows knows_after (o ∷ olds) (m ∷ noted) (g ∷ givens) (n ∷ news) begun notes gets looks = (
-    seen_one rows after knows knows_after o m g n begun.0 notes.0 gets.0 looks.0,
-    seen_each rows after knows knows_after olds noted givens news begun.1 notes.1 gets.1 looks.1,
+  seen_each from from_is rows after knows knows_after [] [] [] [] begun notes gets looks = tt
+  seen_each from from_is rows after knows knows_after [] [] [] (n ∷ news) begun notes gets looks = absurd looks
+  seen_each from from_is rows after knows knows_after [] [] (g ∷ givens) news begun notes gets looks = absurd gets
+  seen_each from from_is rows after knows knows_after [] (m ∷ noted) givens news begun notes gets looks = absurd notes
+  seen_each from from_is rows after knows knows_after (o ∷ olds) [] givens news begun notes gets looks = absurd notes
+  seen_each from from_is rows after knows knows_after (o ∷ olds) (m ∷ noted) [] news begun notes gets looks = absurd gets
+  seen_each from from_is rows after knows knows_after (o ∷ olds) (m ∷ noted) (g ∷ givens) [] begun notes gets looks = absurd looks
+  seen_each from from_is rows after knows knows_after (o ∷ olds) (m ∷ noted) (g ∷ givens) (n ∷ news) begun notes gets looks = (
+    seen_one from from_is rows after knows knows_after o m g n begun.0 notes.0 gets.0 looks.0,
+    seen_each from from_is rows after knows knows_after olds noted givens news begun.1 notes.1 gets.1 looks.1,
   )
 
   came_now : (b : Bool) (old new : List Came) → old ≡ (if b then calls_in past.config past.run past.history else [])
@@ -264,19 +286,23 @@ module _ (past : Life) (e : Entry) (place : ℕ) (here : place ≡ length past.h
       (subst (λ (k : ℕ). Begins old.asked past k e old.trails.items notes.begun) here notes.begins) in
       let asked : given.asked ≡ old.asked = gives.asked ∙ notes.asked in
       let same : new.asked ≡ old.asked = looks.asked ∙ asked in
+      let from = begun_by old.beginnings (served_with e) in
       let knows : KnowsManagers (with_entry e past) given.managers =
       subst (λ (rows : List Since). KnowsManagers (with_entry e past) rows) (sym gives.managers)
       (knows_next past e place here old.managers noted.managers before.managers notes.managers) in
       record {
         managers = subst (λ (rows : List Since). KnowsManagers (with_entry e past) rows) (sym looks.managers) knows;
+        beginnings =
+            counted past e place here old.beginnings new.beginnings before.beginnings
+            (subst (λ (b : Beginnings). Counts (with_entry e past) place b new.beginnings) (gives.beginnings ∙ notes.beginnings) looks.beginnings);
         names =
             named_still (Looks (with_entry e past) place given.managers) (λ o n go. go.name) given.trails.items new.trails.items looks.looks
             ∙ (named_still (Gets filed place) (λ o n go. go.name) noted.trails.items given.trails.items gives.gets
-            ∙ (named_still (Notes past e place old.managers) (λ o n go. go.name) notes.begun noted.trails.items notes.notes
+            ∙ (named_still (Notes past e place from old.managers) (λ o n go. go.name) notes.begun noted.trails.items notes.notes
             ∙ (all.names ∙ ap (λ (a : Selection). names_in a (e ∷ past.history)) (sym same))));
         each =
             All-from_recursion (HasSeen (with_entry e past)) new.trails.items
-            (seen_each old.managers given.managers before.managers knows notes.begun noted.trails.items given.trails.items new.trails.items
+            (seen_each from (begun_is past old.beginnings before.beginnings (served_with e)) old.managers given.managers before.managers knows notes.begun noted.trails.items given.trails.items new.trails.items
             (recursion_from_All (IsBegun past e) notes.begun all.each) notes.notes gives.gets looks.looks);
         object =
             subst (λ (a : Selection). HasTraced a (with_entry e past) new.object) (sym same)

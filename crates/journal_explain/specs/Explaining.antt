@@ -25,8 +25,9 @@ use Rattle.journal_explain.specs.Adapters.{adapter_for}
 use Rattle.journal_explain.specs.Naming.{is_all, names_in}
 use Rattle.journal_explain.specs.Objects.{changes_in, slot_asked, stored_asked}
 use Rattle.journal_explain.specs.Outcomes.{calls_in}
+use Rattle.journal_explain.specs.Serving.{server_in}
 use Rattle.journal_explain.specs.Stories.{IsStory, wait_of}
-use Rattle.journal_explain.specs.Watching.{KnowsManagers}
+use Rattle.journal_explain.specs.Watching.{KnowsBeginnings, KnowsManagers}
 
 -- what came of all calls, where that is asked
 abbrev pub came_in : Selection → Config → ℕ → List Entry → List Came
@@ -38,6 +39,7 @@ pub record HasSeen (life : Life) (t : Trail) : Type 0 where
   pub steps : IsStory life.config life.run (opened life) life.history t.name.arrival t.steps.items
   pub wait : t.wait ≡ wait_of life.config life.run life.history t.name.arrival
   pub adapter : t.adapter ≡ adapter_for life.config life.run life.history t.name.arrival
+  pub server : t.server ≡ server_in life.history t.name.arrival
   pub arrived : t.name.arrival < arrivals life.history
 
 -- so does that of the object that is asked for
@@ -47,9 +49,11 @@ pub record HasTraced (which : Selection) (life : Life) (o : ObjectTrail) : Type 
   pub slot : o.slot ≡ slot_asked which life.config life.run life.history
   pub changes : o.changes.items ≡ changes_in which life.config life.run (opened life) life.history
 
--- so do the trails of all calls that are asked for, what came of all, and since when the managers are in their states
+-- so do the trails of all calls that are asked for, what came of all, since when the managers are in their states, and with which
+-- entries the activations began
 pub record HasWatched (life : Life) (w : Watch) : Type 0 where
   pub managers : KnowsManagers life w.managers
+  pub beginnings : KnowsBeginnings life w.beginnings
   pub names : map (λ t. t.name) w.trails.items ≡ names_in w.asked life.history
   pub each : All (HasSeen life) w.trails.items
   pub object : HasTraced w.asked life w.object

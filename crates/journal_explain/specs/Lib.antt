@@ -1,6 +1,7 @@
 pub mod Rows
 pub mod Managers
 pub mod Adapters
+pub mod Serving
 pub mod Stories
 pub mod Naming
 pub mod Outcomes

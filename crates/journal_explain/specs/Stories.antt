@@ -22,6 +22,7 @@ use Rattle.journal_explain.specs.declared.wait.Wait.{Wait}
 use Rattle.journal_explain.specs.declared.wait.Wait.TheVariants.{Worker, Held}
 use Rattle.journal_explain.specs.Managers.{held_by, ruled_by}
 use Rattle.journal_explain.specs.Rows.{row_of}
+use Rattle.journal_explain.specs.Serving.{begun_for, ended_by, served_with}
 
 -- what a look finds: a verdict, so that it waits for a worker alone; or what holds it
 abbrev pub wait_by : Look → Wait
@@ -40,15 +41,20 @@ row_for c run past r w = if is_message (call_of past r) then Some (row_of (facts
 abbrev pub at_work : List Entry → ℕ → ℕ → Event → Option Event
 at_work past w r told = if is_at r (arrival_in (stage past w)) then Some told else None
 
+-- what an entry is to the call, where it has it served by an activation that this entry began, if it does
+abbrev pub event_with : Config → ℕ → List Entry → Entry → Option ℕ → ℕ → Option Event
+event_with c run past (Arrive conn size call) begun r = if arrivals past == r then Some event.Arrived else None
+event_with c run past (Admit w a verdict) begun r =
+    if a == r then Some (event.Admitted w (row_for c run past r w) verdict begun) else None
+event_with c run past (Tried w answer) begun r = at_work past w r (event.Tried answer)
+event_with c run past (Incarnated w answer) begun r = at_work past w r (event.Incarnated (brings answer))
+event_with c run past (Run w) begun r = at_work past w r event.Ran
+event_with c run past (Done w) begun r = at_work past w r event.Ended
+event_with c run past e begun r = None
+
 -- what an entry is to the call, after the entries before it, beside the reply that is collected with it
 abbrev pub event_of : Config → ℕ → List Entry → Entry → ℕ → Option Event
-event_of c run past (Arrive conn size call) r = if arrivals past == r then Some event.Arrived else None
-event_of c run past (Admit w a verdict) r = if a == r then Some (event.Admitted w (row_for c run past r w) verdict) else None
-event_of c run past (Tried w answer) r = at_work past w r (event.Tried answer)
-event_of c run past (Incarnated w answer) r = at_work past w r (event.Incarnated (brings answer))
-event_of c run past (Run w) r = at_work past w r event.Ran
-event_of c run past (Done w) r = at_work past w r event.Ended
-event_of c run past e r = None
+event_of c run past e r = event_with c run past e (begun_for c run past (served_with e)) r
 
 -- the reply to the call that is collected
 abbrev pub collected : Option Reply → Option Event
@@ -80,7 +86,8 @@ pub record GoesOn (c : Config) (run : ℕ) (opened : Stored) (past : List Entry)
   pub waits : IsNews (length past) (wait_of c run past r) (wait_of c run (e ∷ past) r)
       (held_by c (e ∷ past) (wait_of c run (e ∷ past) r)) news
   pub told : after ≡ before ++ (step_at (length past) (event_of c run past e r) (ruled_by c run past e r)
-      ++ (step_at (length past) (collected_by c run opened past e r) None ++ news))
+      ++ (step_at (length past) (collected_by c run opened past e r) None
+      ++ (step_at (length past) (ended_by c run past e r) None ++ news)))
 
 -- of a call that has arrived the one, and of another the other
 abbrev pub IfArrived : Bool → Type 0 → Type 0 → Type 0
@@ -88,7 +95,7 @@ IfArrived true One Other = One
 IfArrived false One Other = Other
 
 -- these are the steps of the call, the first one first: none before it arrives, and from there on with each entry what it is to
--- the call, and then what the call waits for where that is another than before
+-- the call, that the activation that serves it ends, and then what the call waits for where that is another than before
 abbrev pub IsStory : Config → ℕ → Stored → List Entry → ℕ → List Step → Type 0
 IsStory c run opened [] r steps = steps ≡ []
 IsStory c run opened (e ∷ past) r steps =

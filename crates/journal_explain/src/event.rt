@@ -16,6 +16,9 @@ pub enum Event {
         worker: u32,
         row: Option<Row>,
         verdict: Verdict,
+        /// The entry that began the activation that serves it, by its place in the journal, from 0 on; none where that is one
+        /// of the configuration's, and where none serves it yet.
+        begun: Option<u64>,
     },
     /// The adapter activator answered.
     Tried(Attempt),
@@ -29,4 +32,6 @@ pub enum Event {
     Ended,
     /// This reply to it was taken for writing.
     Collected(Reply),
+    /// The activation of this number, which serves it or did, isn't active any more.
+    Ends(u32),
 }

@@ -1,10 +1,13 @@
 //! Calls explained from a journal: the adapter that each asks, what happened to it with each entry, what it waited for, which row
-//! of the table of verdicts decided it, and its reply; or of all calls what came of them. `specs/Rows.antt` has the rows by their
-//! names, `specs/Managers.antt` since when the managers are in their states, `specs/Adapters.antt` the adapter of a call,
-//! `specs/Stories.antt` what is told of a call, `specs/Objects.antt` what of an object, and `specs/Outcomes.antt` what came of all.
+//! of the table of verdicts decided it, the activation that serves it, and its reply; or of all calls what came of them.
+//! `specs/Rows.antt` has the rows by their names, `specs/Managers.antt` since when the managers are in their states,
+//! `specs/Adapters.antt` the adapter of a call, `specs/Serving.antt` its activation, `specs/Stories.antt` what is told of a call,
+//! `specs/Objects.antt` what of an object, and `specs/Outcomes.antt` what came of all.
 #![tactic(auto)]
 
+mod activity;
 mod adapter;
+mod beginnings;
 mod call_name;
 mod came;
 mod change;
@@ -23,6 +26,7 @@ mod replies;
 mod row;
 mod ruling;
 mod selection;
+mod server;
 mod since;
 mod slots;
 mod step;
@@ -37,6 +41,7 @@ mod wait;
 mod watch;
 
 pub use adapter::Adapter;
+pub use beginnings::Beginnings;
 pub use call_name::CallName;
 pub use came::Came;
 pub use change::Change;

@@ -15,15 +15,18 @@ use std::alloc::Global;
 /// How many workers a run has.
 const WORKERS: u32 = 16;
 
-/// What the next entry of a run, where it may follow, is to a call, beside the reply that is collected with it.
+/// What the next entry of a run, where it may follow, is to a call, beside the reply that is collected with it. Where it has the
+/// call served, the entry `begun` began the activation that serves it.
 pub(crate) fn event_of(
     alloc: Global,
     run: &Run,
     entry: &Entry,
+    begun: Option<u64>,
     arrival: u64,
 ) -> Result<Option<Event>, WantMemory>
     ensures { Follows run.now entry.now
-        → IfOk result (λ told. told ≡ stories.event_of run.now.config run.now.run run.now.history entry.now arrival) }
+        → IfOk result (λ told. told
+        ≡ stories.event_with run.now.config run.now.run run.now.history entry.now begun arrival) }
 {
     match entry {
         Entry::Arrive { .. } => Ok(same(run.arrivals(), arrival, Event::Arrived)),
@@ -39,6 +42,7 @@ pub(crate) fn event_of(
                 worker,
                 row,
                 verdict,
+                begun,
             }))
         }
         Entry::Tried { worker, answer } => {

@@ -24,6 +24,10 @@ pub struct Trail {
     pub adapter: Option<Adapter>,
     pub steps: Vec<Step>,
     pub wait: Option<Wait>,
+    /// The activation with which it was admitted last, if with one.
+    pub server: Option<u32>,
+    /// Whether that was active before the last entry.
+    pub active: bool,
 }
 
 impl Trail {
@@ -34,6 +38,7 @@ impl Trail {
         ensures call { result.call ≡ call }
         ensures steps { result.steps.items ≡ [] }
         ensures wait { result.wait ≡ None }
+        ensures server { result.server ≡ None }
     {
         Trail {
             name,
@@ -41,6 +46,8 @@ impl Trail {
             adapter,
             steps: Vec::new(alloc),
             wait: None,
+            server: None,
+            active: false,
         }
     }
 
@@ -57,6 +64,8 @@ impl Trail {
         ensures call { self.new.call ≡ self.old.call }
         ensures adapter { self.new.adapter ≡ self.old.adapter }
         ensures wait { self.new.wait ≡ self.old.wait }
+        ensures server { self.new.server ≡ self.old.server }
+        ensures active { self.new.active ≡ self.old.active }
     {
         if let Some(event) = told {
             self.steps.push(Step {
@@ -91,6 +100,8 @@ impl Trail {
         ensures call { self.new.call ≡ self.old.call }
         ensures adapter { self.new.adapter ≡ self.old.adapter }
         ensures wait { OnOk result (self.new.wait ≡ wait) }
+        ensures server { self.new.server ≡ self.old.server }
+        ensures active { self.new.active ≡ self.old.active }
     {
         if wait == self.wait {
             return Ok(());

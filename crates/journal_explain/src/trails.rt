@@ -1,7 +1,7 @@
 //! The trails of the calls that are asked for.
 ghost use Rattle.std.specs.Prelude.{◌≡◌, OnOk};
 ghost use Rattle.std.specs.List.{AllZip};
-ghost use Rattle.journal_explain.specs.Watching.{Begins, Gets, Looks, Notes};
+ghost use Rattle.journal_explain.specs.Watching.{Begins, Gets, IsServed, Looks, Notes};
 
 use crate::adapter::adapter_at;
 use crate::call_name::CallName;
@@ -9,6 +9,7 @@ use crate::facing::wait_of;
 use crate::managers::Managers;
 use crate::ruling::{holder, ruler};
 use crate::selection::Selection;
+use crate::server::{ended, server_with, serves};
 use crate::telling::event_of;
 use crate::trail::Trail;
 use core_outboxes::Filed;
@@ -30,6 +31,7 @@ pub(crate) fn begin(
     if let Entry::Arrive { conn, call, .. } = entry {
         let name = CallName::of(run.arrivals(), *conn, call);
         if asked.asks(name, place) {
+            run.keeps_laws();
             let adapter = adapter_at(alloc, run, call)?;
             let call = call.try_clone()?;
             trails.push(Trail::new(alloc, name, call, adapter))?;
@@ -38,20 +40,22 @@ pub(crate) fn begin(
     Ok(())
 }
 
-/// Notes what the next entry of a run, where it may follow, is to each call.
+/// Notes what the next entry of a run, where it may follow, is to each call. Where it has one served, the entry `begun` began the
+/// activation that serves it.
 pub(crate) fn note_each(
     alloc: Global,
     run: &Run,
     entry: &Entry,
     place: u64,
+    begun: Option<u64>,
     managers: &Managers,
     trails: &mut Vec<Trail>,
 ) -> Result<(), WantMemory>
-    ensures { OnOk result
-        (AllZip (Notes run.now entry.now place managers.now) trails.old.items trails.new.items) }
+    ensures { OnOk result (AllZip
+        (Notes run.now entry.now place begun managers.now) trails.old.items trails.new.items) }
 {
     for trail in trails.iter_mut() {
-        note(alloc, run, entry, place, managers, trail)?;
+        note(alloc, run, entry, place, begun, managers, trail)?;
     }
     Ok(())
 }
@@ -61,15 +65,26 @@ fn note(
     run: &Run,
     entry: &Entry,
     place: u64,
+    begun: Option<u64>,
     managers: &Managers,
     trail: &mut Trail,
 ) -> Result<(), WantMemory>
-    ensures { OnOk result (Notes run.now entry.now place managers.now trail.old trail.new) }
+    ensures { OnOk result (Notes run.now entry.now place begun managers.now trail.old trail.new) }
 {
-    let told = event_of(alloc, run, entry, trail.name.arrival)?;
+    let told = event_of(alloc, run, entry, begun, trail.name.arrival)?;
     let manager = ruler(alloc, run, entry, trail.name.arrival)?;
     let tenure = managers.told(run, manager)?;
+    serve(run, entry, trail);
     trail.note(place, told, tenure)
+}
+
+/// Notes which activation serves a call with the next entry of a run, and whether it is active before it.
+fn serve(run: &Run, entry: &Entry, trail: &mut Trail)
+    ensures { IsServed run.now entry.now trail.old trail.new }
+{
+    let server = server_with(entry, trail.name.arrival, trail.server);
+    trail.active = serves(run, server);
+    trail.server = server;
 }
 
 /// Notes the reply that was collected with the entry at this place, if one was.
@@ -86,7 +101,8 @@ pub(crate) fn give_each(
     Ok(())
 }
 
-/// Notes what each call waits for in a run behind the entry at this place.
+/// Notes whether the activation that serves each call ended with the entry at this place, and what the call waits for in a run
+/// behind it.
 pub(crate) fn look_at_each(
     alloc: Global,
     run: &Run,
@@ -112,6 +128,8 @@ fn look(
 ) -> Result<(), WantMemory>
     ensures { OnOk result (Looks run.now place managers.now trail.old trail.new) }
 {
+    let ends = ended(run, trail.server, trail.active);
+    trail.note(place, ends, None)?;
     let wait = wait_of(alloc, run, trail.name.arrival)?;
     let tenure = managers.told(run, holder(wait))?;
     trail.wait_for(place, wait, tenure)

@@ -3,11 +3,13 @@ ghost use Rattle.std.specs.Prelude.{◌≡◌, [], IfOk, OnOk};
 ghost use Rattle.journal_explain.specs.Explaining.{HasWatched};
 ghost use Rattle.journal_explain.specs.Watching.{HasGiven, HasLooked, HasNoted};
 
+use crate::beginnings::Beginnings;
 use crate::came::{Came, note_came};
 use crate::doing::Doing;
 use crate::managers::Managers;
 use crate::object_trail::ObjectTrail;
 use crate::selection::Selection;
+use crate::server::served_with;
 use crate::trail::Trail;
 use crate::trails::{begin, give_each, look_at_each, note_each};
 use core_outboxes::Filed;
@@ -16,7 +18,7 @@ use poa_base::{Entry, WantMemory};
 use std::alloc::Global;
 
 /// What is watched of calls: what happens to those that are asked for by themselves, since when the managers are in their states,
-/// what stands of an object, and what came of all, where that is asked.
+/// with which entries the activations began, what stands of an object, and what came of all, where that is asked.
 #[derive(Drop)]
 pub struct Watch {
     pub asked: Selection,
@@ -24,6 +26,8 @@ pub struct Watch {
     pub trails: Vec<Trail>,
     /// Since when the managers are in their states.
     pub managers: Managers,
+    /// With which entries the activations began.
+    pub beginnings: Beginnings,
     /// The object that is asked for.
     pub object: ObjectTrail,
     /// All calls, in the order of their arriving, where that is asked.
@@ -38,11 +42,13 @@ impl Watch {
         ensures asked { IfOk result (λ watch. watch.asked ≡ asked) }
         ensures watched { IfOk result (HasWatched run.now) }
     {
+        let beginnings = Beginnings::new(alloc, run)?;
         let object = ObjectTrail::new(alloc, run, &asked)?;
         Ok(Watch {
             asked,
             trails: Vec::new(alloc),
             managers: Managers::new(alloc),
+            beginnings,
             object,
             came: Vec::new(alloc),
         })
@@ -58,8 +64,17 @@ impl Watch {
     ) -> Result<(), WantMemory>
         ensures { OnOk result (HasNoted run.now entry.now place self.old self.new) }
     {
+        let begun = self.beginnings.told(served_with(entry));
         begin(alloc, &self.asked, run, place, entry, &mut self.trails)?;
-        note_each(alloc, run, entry, place, &self.managers, &mut self.trails)?;
+        note_each(
+            alloc,
+            run,
+            entry,
+            place,
+            begun,
+            &self.managers,
+            &mut self.trails,
+        )?;
         self.managers.note(run, entry, place)?;
         if self.asked.is_all() {
             note_came(alloc, run, entry, place, &mut self.came)?;
@@ -74,7 +89,8 @@ impl Watch {
         give_each(place, given, &mut self.trails)
     }
 
-    /// Notes what the calls wait for in a run behind the entry at this place, which does this, and what stands of the object.
+    /// Notes what the calls wait for in a run behind the entry at this place, which does this, what stands of activations, and of
+    /// the object.
     pub(crate) fn look(
         &mut self,
         alloc: Global,
@@ -85,6 +101,7 @@ impl Watch {
         ensures { OnOk result (HasLooked run.now place doing self.old self.new) }
     {
         look_at_each(alloc, run, place, &self.managers, &mut self.trails)?;
+        self.beginnings.note(run, place)?;
         self.object.note(run, &self.asked, place, doing)
     }
 }

@@ -3,7 +3,7 @@ use Rattle.std.proofs.Common.{◌≡◌, ℕ, ◌+◌, ◌<◌, Bool, Option, Li
 use Rattle.std.specs.List.{flat_map}
 use Rattle.std.proofs.lemmas.List.{drop_more, flat_map_more, take_more}
 use Rattle.journal_explain.specs.declared.Step.{Step}
-use Rattle.poad_audit.specs.PictureBars.{bars_by, ended, next}
+use Rattle.poad_audit.specs.PictureBars.{bar_after, bars_by, bars_ended}
 use Rattle.poad_audit.specs.PictureLanes.{entered_if, lane_text, lanes_text, numbers_by}
 use Rattle.poad_audit.specs.declared.picture.bar.Bar.{Bar}
 use Rattle.poad_audit.specs.declared.picture.lane.Lane.{Lane}
@@ -18,16 +18,16 @@ piece_here f all i d below start old new piece is put so_far =
     ∙ flat_map_more f start (take i all) (get_or all i d)
     ∙ ap (λ t. start ++ flat_map f t) (sym (take_more all i d below))
 
--- the bar that a step ends is put, and those behind it are left
+-- the bar that a step ends is put, if it ends one, and those behind it are left
 pub bar_here : (asked : Bool) (all : List Step) (i : ℕ) (d : Step) → i < length all → (b later : Bar) (old new whole : List Bar)
-    → new ≡ old ++ ended (get_or all i d).entry b ∷ [] → later ≡ next asked (get_or all i d) b
+    → new ≡ old ++ bars_ended (get_or all i d) b → later ≡ bar_after asked (get_or all i d) b
     → old ++ bars_by asked b (drop i all) ≡ whole → new ++ bars_by asked later (drop (i + 1) all) ≡ whole
 bar_here asked all i d below b later old new whole put goes so_far =
     let s = get_or all i d in
     let rest = drop (i + 1) all in
     ap (λ bs. bs ++ bars_by asked later rest) put
-    ∙ append_assoc old (ended s.entry b ∷ []) (bars_by asked later rest)
-    ∙ ap (λ (x : Bar). old ++ ended s.entry b ∷ bars_by asked x rest) goes
+    ∙ append_assoc old (bars_ended s b) (bars_by asked later rest)
+    ∙ ap (λ (x : Bar). old ++ (bars_ended s b ++ bars_by asked x rest)) goes
     ∙ ap (λ t. old ++ t) (sym (ap (bars_by asked b) (drop_more all i d below)))
     ∙ so_far
 

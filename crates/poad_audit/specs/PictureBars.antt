@@ -6,7 +6,7 @@ use Rattle.journal_explain.specs.declared.Event.{Event}
 use Rattle.journal_explain.specs.declared.Event.TheVariants as event
 use Rattle.journal_explain.specs.declared.Step.{Step}
 use Rattle.journal_explain.specs.declared.Trail.{Trail}
-use Rattle.poad_audit.specs.PicturePhases.{activation_of, is_over, phase_by, phase_text, phase_word}
+use Rattle.poad_audit.specs.PicturePhases.{activation_of, is_over, is_phase, phase_by, phase_text, phase_word}
 use Rattle.poad_audit.specs.declared.picture.phase.Phase.TheVariants.{Over}
 use Rattle.poad_audit.specs.declared.picture.bar.Bar.{Bar}
 use Rattle.poad_audit.specs.declared.picture.window.Window.{Window}
@@ -17,11 +17,11 @@ unseen call = record { call = call; phase = Over; worker = None; activation = No
 
 -- who admitted the call last, and for which activation
 abbrev pub worker_by : Event → Option ℕ → Option ℕ
-worker_by (event.Admitted worker row v) before = Some worker
+worker_by (event.Admitted worker row v begun) before = Some worker
 worker_by other before = before
 
 abbrev pub activation_by : Event → Option ℕ → Option ℕ
-activation_by (event.Admitted worker row v) before = activation_of v
+activation_by (event.Admitted worker row v begun) before = activation_of v
 activation_by other before = before
 
 -- the bar ends with this entry
@@ -39,9 +39,16 @@ next asked s b = record {
   end = None;
 }
 
+-- where it begins a phase
+abbrev pub bars_ended : Step → Bar → List Bar
+bars_ended s b = if is_phase s.event then ended s.entry b ∷ [] else []
+
+abbrev pub bar_after : Bool → Step → Bar → Bar
+bar_after asked s b = if is_phase s.event then next asked s b else b
+
 abbrev pub bars_by : Bool → Bar → List Step → List Bar
 bars_by asked b [] = b ∷ []
-bars_by asked b (s ∷ more) = ended s.entry b ∷ bars_by asked (next asked s b) more
+bars_by asked b (s ∷ more) = bars_ended s b ++ bars_by asked (bar_after asked s b) more
 
 -- the bars of a call: each of its phases, from the entry that began it to the entry that ended it, if there is one
 abbrev pub bars_of : Trail → List Bar

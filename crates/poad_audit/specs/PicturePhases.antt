@@ -55,12 +55,18 @@ done asks other = replied asks
 abbrev pub phase_by : Bool → Phase → Event → Phase
 phase_by asks before event.Arrived = phase.Waiting
 phase_by asks before (event.Waits wait) = waiting wait
-phase_by asks before (event.Admitted worker row v) = decided asks v
+phase_by asks before (event.Admitted worker row v begun) = decided asks v
 phase_by asks before (event.Tried answer) = tried asks answer
 phase_by asks before (event.Incarnated b) = brought asks b
 phase_by asks before event.Ran = phase.Running
 phase_by asks before event.Ended = done asks before
 phase_by asks before (event.Collected reply) = taken before
+phase_by asks before (event.Ends n) = before
+
+-- that the activation ends which serves a call, or did, is no phase of the call
+abbrev pub is_phase : Event → Bool
+is_phase (event.Ends n) = false
+is_phase other = true
 
 -- the activation that a verdict names
 abbrev pub activation_of : Verdict → Option ℕ

@@ -19,7 +19,7 @@ use Rattle.poad_audit.specs.Adapters.{adapter_text}
 use Rattle.poad_audit.specs.Calls.{call_text}
 use Rattle.poad_audit.specs.Managers.{held_since, ruler_text}
 use Rattle.poad_audit.specs.Replies.{collected_text}
-use Rattle.poad_audit.specs.Verdicts.{verdict_text}
+use Rattle.poad_audit.specs.Verdicts.{decided_text}
 
 abbrev pub row_text : Row → List ℕ
 row_text row.Crowded = codes "when it arrived, 65536 requests and locates stood unadmitted"
@@ -85,20 +85,25 @@ brought_text false = codes "the servant activator brought none"
 abbrev pub admitted_head : ℕ → List ℕ
 admitted_head w = codes "admitted by worker " ++ (decimal w ++ codes ": ")
 
-abbrev pub admitted_text : ℕ → Option Row → Option Tenure → Verdict → List ℕ
-admitted_text w row manager verdict =
-    admitted_head w ++ (reason_text row ++ (ruler_text manager ++ (codes "; " ++ verdict_text verdict)))
+abbrev pub admitted_text : ℕ → Option Row → Option Tenure → Verdict → Option ℕ → List ℕ
+admitted_text w row manager verdict begun =
+    admitted_head w ++ (reason_text row ++ (ruler_text manager ++ (codes "; " ++ decided_text verdict begun)))
+
+-- the activation that serves it isn't active any more
+abbrev pub ends_text : ℕ → List ℕ
+ends_text n = codes "activation " ++ (decimal n ++ codes " is ending")
 
 -- by the state of this manager
 abbrev pub event_text : Event → Option Tenure → List ℕ
 event_text event.Arrived manager = codes "arrived"
 event_text (event.Waits wait) manager = waits_text wait manager
-event_text (event.Admitted w row verdict) manager = admitted_text w row manager verdict
+event_text (event.Admitted w row verdict begun) manager = admitted_text w row manager verdict begun
 event_text (event.Tried answer) manager = attempt_text answer
 event_text (event.Incarnated brought) manager = brought_text brought
 event_text event.Ran manager = codes "its servant ran"
 event_text event.Ended manager = codes "the request ended"
 event_text (event.Collected reply) manager = collected_text reply
+event_text (event.Ends n) manager = ends_text n
 
 abbrev pub step_line : Step → List ℕ
 step_line s = codes "entry " ++ (decimal s.entry ++ (codes " " ++ (event_text s.event s.manager ++ codes "\n")))

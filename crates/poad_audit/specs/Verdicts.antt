@@ -1,5 +1,5 @@
 -- A verdict on a call, in words.
-use Rattle.std.specs.Prelude.{ℕ, List, [], ◌∷◌, ◌++◌, codes, decimal}
+use Rattle.std.specs.Prelude.{ℕ, List, [], ◌∷◌, ◌++◌, codes, decimal, Option, Some, None}
 use Rattle.poa_base.specs.declared.Answer.{Answer}
 use Rattle.poa_base.specs.declared.Endpoint.{Endpoint}
 use Rattle.poa_base.specs.declared.SysExc.{SysExc}
@@ -37,3 +37,16 @@ verdict_text verdict.Here = codes "answered that the object is here"
 verdict_text verdict.Unknown = codes "answered that the object is unknown"
 verdict_text (verdict.Answer answer) = answered_text answer
 verdict_text verdict.Wait = codes "done, and its answer waits"
+
+-- with which entry an activation began
+abbrev pub since_text : Option ℕ → List ℕ
+since_text (Some entry) = codes ", begun with entry " ++ decimal entry
+since_text None = codes ", one of the configuration's"
+
+-- behind the activation that serves the call
+abbrev pub begun_text : Verdict → Option ℕ → List ℕ
+begun_text (verdict.Serve n) begun = since_text begun
+begun_text other begun = []
+
+abbrev pub decided_text : Verdict → Option ℕ → List ℕ
+decided_text v begun = verdict_text v ++ begun_text v begun

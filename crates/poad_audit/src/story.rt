@@ -7,7 +7,7 @@ use crate::call_text::put_call;
 use crate::manager_text::{held_since, ruler_text};
 use crate::reply_text::collected_text;
 use crate::row_text::reason_text;
-use crate::verdict_text::{fixed, verdict_text};
+use crate::verdict_text::{decided_text, fixed};
 use held_queue::Hold;
 use journal_explain::{CallName, Event, Row, Step, Tenure, Trail, Wait};
 use poa_base::{Attempt, Bytes, Verdict, WantMemory};
@@ -99,12 +99,14 @@ fn event_text(alloc: Global, event: &Event, manager: Option<&Tenure>) -> Result<
             worker,
             row,
             verdict,
-        } => admitted_text(alloc, *worker, *row, manager, verdict),
+            begun,
+        } => admitted_text(alloc, *worker, *row, manager, verdict, *begun),
         Event::Tried(answer) => attempt_text(alloc, *answer),
         Event::Incarnated { brought } => fixed(alloc, brought_text(*brought)),
         Event::Ran => fixed(alloc, "its servant ran"),
         Event::Ended => fixed(alloc, "the request ended"),
         Event::Collected(reply) => collected_text(alloc, reply),
+        Event::Ends(number) => ends_text(alloc, *number),
     }
 }
 
@@ -124,13 +126,14 @@ fn admitted_text(
     row: Option<Row>,
     manager: Option<&Tenure>,
     verdict: &Verdict,
+    begun: Option<u64>,
 ) -> Result<Bytes, WantMemory>
     ensures { IfOk result (λ text. text
-        ≡ printed.admitted_text worker row (option_copied manager.entry) verdict.now) }
+        ≡ printed.admitted_text worker row (option_copied manager.entry) verdict.now begun) }
 {
     let reason = fixed(alloc, reason_text(row))?;
     let ruler = ruler_text(alloc, manager)?;
-    let decided = verdict_text(alloc, verdict)?;
+    let decided = decided_text(alloc, verdict, begun)?;
     let mut out = admitted_head(alloc, worker)?;
     out.extend_from_slice(reason.as_slice())?;
     out.extend_from_slice(ruler.as_slice())?;
@@ -144,6 +147,14 @@ fn admitted_head(alloc: Global, worker: u32) -> Result<Vec<u8>, WantMemory>
 {
     let head = format!(in alloc; "admitted by worker {worker}: ")?;
     Ok(head.into_bytes())
+}
+
+/// That the activation which serves a call isn't active any more.
+fn ends_text(alloc: Global, number: u32) -> Result<Bytes, WantMemory>
+    ensures { IfOk result (λ text. text ≡ printed.ends_text number) }
+{
+    let text = format!(in alloc; "activation {number} is ending")?;
+    Ok(Bytes::from_vec(text.into_bytes()))
 }
 
 /// What a call waits for, and since when the manager that holds it does so.

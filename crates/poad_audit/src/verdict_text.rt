@@ -9,7 +9,7 @@ use std::alloc::Global;
 use text_words::{put_endpoint, put_minor};
 
 /// What was decided with an admission.
-pub(crate) fn verdict_text(alloc: Global, verdict: &Verdict) -> Result<Bytes, WantMemory>
+fn verdict_text(alloc: Global, verdict: &Verdict) -> Result<Bytes, WantMemory>
     ensures { IfOk result (λ text. text ≡ printed.verdict_text verdict.now) }
 {
     match verdict {
@@ -25,6 +25,43 @@ pub(crate) fn verdict_text(alloc: Global, verdict: &Verdict) -> Result<Bytes, Wa
         Verdict::Unknown => fixed(alloc, "answered that the object is unknown"),
         Verdict::Answer(answer) => answered_text(alloc, answer),
         Verdict::Wait => fixed(alloc, "done, and its answer waits"),
+    }
+}
+
+/// The same, and with which entry the activation began that serves the call.
+pub(crate) fn decided_text(
+    alloc: Global,
+    verdict: &Verdict,
+    begun: Option<u64>,
+) -> Result<Bytes, WantMemory>
+    ensures { IfOk result (λ text. text ≡ printed.decided_text verdict.now begun) }
+{
+    let decided = verdict_text(alloc, verdict)?;
+    let since = begun_text(alloc, verdict, begun)?;
+    let mut out = decided.into_vec();
+    out.extend_from_slice(since.as_slice())?;
+    Ok(Bytes::from_vec(out))
+}
+
+/// Behind the activation that serves a call: with which entry it began.
+fn begun_text(alloc: Global, verdict: &Verdict, begun: Option<u64>) -> Result<Bytes, WantMemory>
+    ensures { IfOk result (λ text. text ≡ printed.begun_text verdict.now begun) }
+{
+    match verdict {
+        Verdict::Serve(_) => since_text(alloc, begun),
+        _ => Ok(Bytes::new(alloc)),
+    }
+}
+
+fn since_text(alloc: Global, begun: Option<u64>) -> Result<Bytes, WantMemory>
+    ensures { IfOk result (λ text. text ≡ printed.since_text begun) }
+{
+    match begun {
+        Some(entry) => {
+            let text = format!(in alloc; ", begun with entry {entry}")?;
+            Ok(Bytes::from_vec(text.into_bytes()))
+        }
+        None => fixed(alloc, ", one of the configuration's"),
     }
 }
 

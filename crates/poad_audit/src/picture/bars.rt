@@ -4,8 +4,9 @@ ghost use Rattle.poa_history.specs.Replies.{asks};
 ghost use Rattle.poad_audit.specs.PictureBars as drawn;
 
 use crate::picture::bar::Bar;
+use crate::picture::phase::is_phase;
 use crate::picture::window::Window;
-use journal_explain::Trail;
+use journal_explain::{Step, Trail};
 use poa_base::{Call, WantMemory};
 use std::alloc::Global;
 
@@ -27,11 +28,23 @@ fn put_bars(bars: &mut Vec<Bar>, trail: &Trail) -> Result<(), WantMemory>
     let asked = is_asking(&trail.call);
     let mut bar = Bar::unseen(trail.name.arrival);
     for step in trail.steps.as_slice() {
-        bars.push(bar.until(step.entry))?;
-        bar = bar.then(asked, step);
+        let after = put_step(bars, bar, asked, step)?;
+        bar = after;
     }
     bars.push(bar)?;
     Ok(())
+}
+
+/// Adds the bar that ends with a step, where that begins another; and gives the one that is there behind it.
+fn put_step(bars: &mut Vec<Bar>, bar: Bar, asked: bool, step: &Step) -> Result<Bar, WantMemory>
+    ensures bars { OnOk result (bars.new.items ≡ bars.old.items ++ drawn.bars_ended step.now bar) }
+    ensures bar { IfOk result (λ after. after ≡ drawn.bar_after asked step.now bar) }
+{
+    if !is_phase(&step.event) {
+        return Ok(bar);
+    }
+    bars.push(bar.until(step.entry))?;
+    Ok(bar.then(asked, step))
 }
 
 /// Whether a call asks a reply.

@@ -45,6 +45,7 @@ impl Phase {
             Event::Ran => Phase::Running,
             Event::Ended => self.done(asked),
             Event::Collected(_) => self.taken(),
+            Event::Ends(_) => self,
         }
     }
 
@@ -85,6 +86,16 @@ impl Phase {
         ensures { result ≡ drawn.is_over self }
     {
         matches!(self, Phase::Over)
+    }
+}
+
+/// Whether an event begins a phase of its call: that the activation ends which serves it, or did, begins none.
+pub(crate) fn is_phase(event: &Event) -> bool
+    ensures { result ≡ drawn.is_phase event.now }
+{
+    match event {
+        Event::Ends(_) => false,
+        _ => true,
     }
 }
 

@@ -9,4 +9,5 @@ returns-in_ok-push c =
     c.push.new.self.items c.new.result c.of-name.result c.in-Arrive.is
     (c.of-name.ensures ∙ ap (λ r. name_of r c.in-Arrive.conn c.in-Arrive.call) c.arrivals.ensures)
     (sym c.asks.ensures ∙ c.if-asks.true) c.new.ensures.name (c.new.ensures.call ∙ c.in_ok-call.ensures.equal)
-    (c.new.ensures.adapter ∙ c.in_ok-adapter.ensures) c.new.ensures.steps c.new.ensures.wait c.in_ok-push.ensures.items
+    (c.new.ensures.adapter ∙ c.in_ok-adapter.ensures) c.new.ensures.steps c.new.ensures.wait
+    c.keeps_laws.ensures.legal c.new.ensures.server c.in_ok-push.ensures.items
