@@ -153,7 +153,7 @@ module _ {A : Type 0} (m : Meaning A) (a : A) (i j : Intake) (replies : List ℕ
   -- a call
   module _ (call : Call) (size : ℕ)
       (step : (next : List ℕ) (more : List Heard) (stop : HeardStop) → OfIntake j next more stop
-          → OfIntake i next (record { call = call; size = size } ∷ more) stop)
+      → OfIntake i next (record { call = call; size = size } ∷ more) stop)
       (fewer : unread_of j.ear < unread_of i.ear) where
     pub turn_call : (result : Option Stop) (b : A) (after : List ℕ) → Does m result call size a b replies after
         → Turns m result (server a i replies) (server b j after)

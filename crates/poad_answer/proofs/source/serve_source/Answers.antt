@@ -75,21 +75,21 @@ returns-then-not-write_replies-clause-written g c =
 pub loop-taken-preserved : goal.loop-taken-preserved
 loop-taken-preserved g c = record {
   runs = run_goes_on g.A.Answerer.meaning c.args.answerer.now _ _ _ _ _ c.loop-taken.taken c.loop-taken.left_over
-    (server c.loop-taken.answerer c.loop-taken.input c.loop-taken.replies.items)
-    c.loop-taken.invariant.runs (take c.in-Got.count c.read_front.new.buffer) c.in-Got.ensures.bytes
-    (server c.take_piece-why.new.answerer c.take_piece-why.new.input c.take_piece-why.new.replies.items) c.in-Some.have
-    (subst (λ (w : Stop). TakesPiece g.A.Answerer.meaning w (take c.in-Got.count c.read_front.new.buffer)
-    (server c.loop-taken.answerer c.loop-taken.input c.loop-taken.replies.items)
-    (server c.take_piece-why.new.answerer c.take_piece-why.new.input c.take_piece-why.new.replies.items)) c.in-Some.ensures
-    (piece_same g.A.Answerer.meaning _ _ (take c.in-Got.count c.read_front.new.buffer)
-    (server c.loop-taken.answerer c.loop-taken.input c.loop-taken.replies.items)
-    (server c.take_piece-why.new.answerer c.take_piece-why.new.input c.take_piece-why.new.replies.items)
-    (cut_piece c.in-Got.count c.loop-taken.buffer.len c.deref.result.now c.read_front.new.buffer _ c.deref.ensures.value
-    (omega (arith, c.in-Got.ensures.within.1, c.deref_mut.ensures.len)) (omega (arith, c.in-Got.ensures.within.1, c.read_front.auto.buffer)))
-    c.take_piece-why.ensures.takes))
-    c.in-Got.count _ c.write_replies.new.replies.items
-    (length-take-le c.in-Got.count c.read_front.new.buffer (omega (arith, c.in-Got.ensures.within.1, c.read_front.auto.buffer)))
-    c.if-not-write_replies.ensures.held c.write_replies.ensures.none_waits;
+      (server c.loop-taken.answerer c.loop-taken.input c.loop-taken.replies.items)
+      c.loop-taken.invariant.runs (take c.in-Got.count c.read_front.new.buffer) c.in-Got.ensures.bytes
+      (server c.take_piece-why.new.answerer c.take_piece-why.new.input c.take_piece-why.new.replies.items) c.in-Some.have
+      (subst (λ (w : Stop). TakesPiece g.A.Answerer.meaning w (take c.in-Got.count c.read_front.new.buffer)
+      (server c.loop-taken.answerer c.loop-taken.input c.loop-taken.replies.items)
+      (server c.take_piece-why.new.answerer c.take_piece-why.new.input c.take_piece-why.new.replies.items)) c.in-Some.ensures
+      (piece_same g.A.Answerer.meaning _ _ (take c.in-Got.count c.read_front.new.buffer)
+      (server c.loop-taken.answerer c.loop-taken.input c.loop-taken.replies.items)
+      (server c.take_piece-why.new.answerer c.take_piece-why.new.input c.take_piece-why.new.replies.items)
+      (cut_piece c.in-Got.count c.loop-taken.buffer.len c.deref.result.now c.read_front.new.buffer _ c.deref.ensures.value
+      (omega (arith, c.in-Got.ensures.within.1, c.deref_mut.ensures.len)) (omega (arith, c.in-Got.ensures.within.1, c.read_front.auto.buffer)))
+      c.take_piece-why.ensures.takes))
+      c.in-Got.count _ c.write_replies.new.replies.items
+      (length-take-le c.in-Got.count c.read_front.new.buffer (omega (arith, c.in-Got.ensures.within.1, c.read_front.auto.buffer)))
+      c.if-not-write_replies.ensures.held c.write_replies.ensures.none_waits;
   within = omega (arith, c.in-Got.ensures.most.1);
   room_is = c.loop-taken.invariant.room_is;
   reads = omega (arith, c.loop-taken.invariant.reads, c.in-Got.ensures.failed.later);
