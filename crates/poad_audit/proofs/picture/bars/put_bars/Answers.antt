@@ -1,7 +1,6 @@
-use Rattle.std.proofs.Common.{◌≡◌, ◌<◌, List, [], ◌∷◌, ◌++◌, length, get_or, ap, subst, ◌∙◌}
+use Rattle.std.proofs.Common.{◌≡◌, ◌<◌, List, ◌++◌, length, get_or, ap, subst, ◌∙◌}
 use Rattle.journal_explain.specs.declared.Step.{Step}
 use Rattle.poad_audit.specs.PictureBars.{bar_after, bars_ended}
-use Rattle.poad_audit.specs.declared.picture.bar.Bar.{Bar}
 use Rattle.poad_audit.proofs.PictureFolds.{bar_here}
 use Rattle.poad_audit.proofs.picture.bars.put_bars.Goals as goal
 
