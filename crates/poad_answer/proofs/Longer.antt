@@ -1,7 +1,7 @@
 -- A text that goes on: behind a place where it ends, nothing more is heard of it.
 use Rattle.std.proofs.Common.{◌≡◌, ◌⊎◌, ℕ, List, [], ◌∷◌, ◌++◌, inl, inr, sym, ap, ◌∙◌, subst, append_assoc}
 use Rattle.std.specs.List.{concat}
-use Rattle.std.specs.Prelude.{Result, Ok, Err, length}
+use Rattle.std.specs.Prelude.{Result, Ok, Err}
 use Rattle.giop_frame.specs.Stream.{AreGood, End, Framed, Reading, Stream, StreamFrom, after, after_all, bad_place, completed, left_over, messages_of, start}
 use Rattle.giop_frame.proofs.Streams.{bad_stays, some_stream, stream_put}
 use Rattle.giop_msg.specs.declared.Incoming.{Incoming}

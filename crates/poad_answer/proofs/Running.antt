@@ -2,10 +2,10 @@
 use Rattle.std.proofs.Common.{◌≡◌, ℕ, ◌+◌, ◌<◌, ◌≤◌, ◌^◌, List, [], ◌∷◌, ◌++◌, length, take, Option, Bool, true, false, refl, sym, ap, ◌∙◌, subst, append_assoc, append-nil, length-append, inl, inr, arith}
 use Rattle.std.proofs.lemmas.List.{take-take, take-append-le}
 use Rattle.outside.specs.Told.{IfTold}
-use Rattle.giop_frame.specs.Stream.{Stream, left_over}
+use Rattle.giop_frame.specs.Stream.{left_over}
 use Rattle.poa_base.specs.declared.Call.{Call}
 use Rattle.session_laws.specs.declared.peer.Peer.TheVariants.{Client}
-use Rattle.session_laws.specs.Hearing.{Heard, HearsMessages, message_limit, over}
+use Rattle.session_laws.specs.Hearing.{Heard, HearsMessages, over}
 use Rattle.session_laws.specs.Expecting.{Expects}
 use Rattle.session_laws.specs.HearingPieces.{Intake, KnowsFirst, OfIntake}
 use Rattle.session_laws.specs.Sessions.{Begins}

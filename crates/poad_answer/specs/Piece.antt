@@ -1,5 +1,5 @@
 -- How a client's calls are served as its bytes come, whoever answers: the words of the contracts inside of this crate.
-use Rattle.std.specs.Prelude.{◌≡◌, ◌≢◌, ℕ, ◌+◌, ◌<◌, List, [], ◌∷◌, ◌++◌, Option, Some, None, length, ⊤}
+use Rattle.std.specs.Prelude.{◌≡◌, ◌≢◌, ℕ, ◌+◌, ◌<◌, List, [], ◌++◌, Option, Some, None, length, ⊤}
 use Rattle.poa_base.specs.declared.Call.{Call}
 use Rattle.poa_core.specs.declared.ArriveFault.{ArriveFault}
 use Rattle.poa_core.specs.declared.ArriveFault.TheVariants.{Limit, WantMemory}

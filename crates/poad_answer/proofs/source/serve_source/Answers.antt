@@ -1,7 +1,6 @@
 -- The source between two pieces, and each of its ends.
-use Rattle.std.proofs.Common.{take, refl, sym, subst, arith, ◌∙◌}
+use Rattle.std.proofs.Common.{take, refl, subst, arith}
 use Rattle.std.proofs.lemmas.List.{length-take-le}
-use Rattle.session_laws.specs.declared.peer.Peer.TheVariants.{Client}
 use Rattle.poad_answer.specs.declared.end.End.{End}
 use Rattle.poad_answer.specs.declared.stop.Stop.{Stop}
 use Rattle.poad_answer.specs.Closing.{Closes, EndsAt}
