@@ -1,12 +1,12 @@
 -- A source that a run of a configuration served, and the status of it.
 use Rattle.std.proofs.Common.{◌≡◌, ℕ, List, [], ◌∷◌, Option, true, false, sym, ◌∙◌, subst, refl, append-nil}
 use Rattle.poa_base.specs.declared.Config.{Config}
-use Rattle.giop_frame.specs.Stream.{Framed}
 use Rattle.history_laws.specs.Lasting.{KeepsUpdates, LeavesNothing}
 use Rattle.poa_core.specs.Answers.{unadmitted}
 use Rattle.poa_history.specs.Legal.{IsLegal}
 use Rattle.poa_history.specs.Life.{Life, opened}
 use Rattle.poa_history.specs.Lifetime.{HasLifetime}
+use Rattle.session_laws.specs.Hearing.{Heard}
 use Rattle.poad_files.specs.Delivery.{Hands}
 use Rattle.poad_files.specs.declared.status.Status.{Status}
 use Rattle.poad_files.specs.declared.status.Status.TheVariants.{Ok, Malformed, Truncated, Held, Limit, ReadFault, InputLimit, WriteFault, WantMemory}
@@ -14,7 +14,7 @@ use Rattle.poad_answer.specs.declared.end.End.{End}
 use Rattle.poad_answer.specs.declared.end.End.TheVariants as end
 use Rattle.poad_answer.specs.declared.stop.Stop.{Stop}
 use Rattle.poad_answer.specs.declared.stop.Stop.TheVariants as stop
-use Rattle.poad_answer.specs.Messages.{MessageGives, Serves}
+use Rattle.poad_answer.specs.Calls.{Serves}
 use Rattle.poad_answer.specs.Serving.{GivesCall, IsLegalRun, by_core}
 use Rattle.poad_answer.specs.Source.{IsLeft, ServesSource, SourceEnds, is_written}
 use Rattle.poad_answer.specs.Run.{Gains, IsKeptBy, RunAnswers, RunEnds, TellsEnd, TellsHeld, life_at_answer}
@@ -23,15 +23,13 @@ use Rattle.replay_run.specs.Opening.{life_at_first}
 use Rattle.replay_run.proofs.Same.{Givens, givens_life, givens_then}
 use Rattle.replay_run.proofs.Given.{legal_for, lifetime_for, undone_for, updates_for}
 use Rattle.poad_answer.proofs.Running.{begins_none}
-use Rattle.poad_answer.proofs.Worked.{asked_givens}
+use Rattle.poad_answer.proofs.Worked.{call_givens}
 
 -- the givens of the run stay
-gives_givens : (a : Life) (m : Framed) (bytes : List ℕ) (b : Life) → MessageGives GivesCall a m bytes b → Givens a b
-gives_givens a m bytes b g = asked_givens a g.asked _ bytes b g.gives
-
-serves_givens : (messages : List Framed) (a : Life) (replies : List ℕ) (b : Life) → Serves (MessageGives GivesCall) a messages replies b → Givens a b
+serves_givens : (calls : List Heard) (a : Life) (replies : List ℕ) (b : Life) → Serves GivesCall a calls replies b → Givens a b
 serves_givens [] a replies b s = subst (λ (l : Life). Givens a l) (sym s.1) (givens_life a)
-serves_givens (m ∷ ms) a replies b s = givens_then a s.1.0 b (gives_givens a m s.0 s.1.0 s.1.1.1.0) (serves_givens ms s.1.0 s.1.1.0 b s.1.1.1.1)
+serves_givens (h ∷ calls) a replies b s =
+    givens_then a s.1.0 b (call_givens a h.call h.size s.0 s.1.0 s.1.1.1.0) (serves_givens calls s.1.0 s.1.1.0 b s.1.1.1.1)
 
 kept_so : (c : Config) (life : Life) → Givens (life_at_answer c) life → IsLegalRun life → IsLegal c c.run 4000000 life.history
     × HasLifetime c c.run life.history × LeavesNothing c c.run life.history × KeepsUpdates c c.run (opened (life_at_first c 4000000)) life.history
@@ -61,7 +59,7 @@ gains_so (end.Truncated have) status held bytes before now told h = subst (λ (s
 gains_so (end.InputLimit taken) status held bytes before now told h = subst (λ (s : Status). Gains s bytes before now) (sym told) h
 gains_so end.WantMemory status held bytes before now told h = subst (λ (s : Status). Gains s bytes before now) (sym told) h
 
--- where it was read whole, as many calls are unadmitted as the last message left so
+-- where it was read whole, as many calls are unadmitted as the last call left so
 module _ (why : Stop) (last new : Life) (got : List ℕ) (left : Option (List ℕ)) where
   ends_held : (status : Status) → TellsHeld status (unadmitted new.history) → new ≡ last → SourceEnds end.Read why got left
       → RunEnds status why (unadmitted last.history) got left
@@ -85,12 +83,12 @@ module _ (why : Stop) (last new : Life) (got : List ℕ) (left : Option (List �
 pub answered : (c : Config) (status : Status) (e : End) (start new : Life) (l m h k : Option (List ℕ)) → start ≡ life_at_answer c
     → TellsEnd e status (unadmitted new.history) → ServesSource by_core e start new l m h k → RunAnswers c status l m h k
 answered c status e start new l m h k first told s =
-    let served : Serves (MessageGives GivesCall) (life_at_answer c) s.messages s.replies s.last =
-    subst (λ (life : Life). Serves (MessageGives GivesCall) life s.messages s.replies s.last) first s.served in
+    let served : Serves GivesCall (life_at_answer c) s.calls s.replies s.last =
+    subst (λ (life : Life). Serves GivesCall life s.calls s.replies s.last) first s.served in
     record {
       got = s.got;
       took = s.took;
-      messages = s.messages;
+      calls = s.calls;
       replies = s.replies;
       life = s.last;
       served = served;
@@ -100,7 +98,7 @@ answered c status e start new l m h k first told s =
       closes = s.closes;
       gave = told_so h k _ _ (λ x y p. gains_so e status (unadmitted new.history) _ x y told p) s.gave;
       ends = ends_so s.why s.last new s.got m e status told s.kept s.ends;
-      kept = kept_by status c s.last (serves_givens s.messages (life_at_answer c) s.replies s.last served) s.fits.legal;
+      kept = kept_by status c s.last (serves_givens s.calls (life_at_answer c) s.replies s.last served) s.fits.legal;
     }
 
 -- nothing was read or written, since memory was wanting for the run
@@ -108,7 +106,7 @@ pub answered_none : (c : Config) (l h : Option (List ℕ)) → RunAnswers c Want
 answered_none c l h = record {
   got = [];
   took = told_here l _ (λ x. refl);
-  messages = [];
+  calls = [];
   replies = [];
   life = life_at_answer c;
   served = (refl, refl);

@@ -1,4 +1,4 @@
-pub mod Serving
+pub mod Serves
 pub mod Pieces
 pub mod Worked
 pub mod Running

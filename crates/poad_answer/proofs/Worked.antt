@@ -24,11 +24,8 @@ use Rattle.replay_run.proofs.Arrived.{open_still}
 use Rattle.replay_run.proofs.Collected.{Did, did, did_still, collected_one, collected_still}
 use Rattle.poa_base.specs.declared.Config.{Config}
 use Rattle.poa_base.specs.declared.Entry.TheVariants.{Arrive, Filled}
-use Rattle.giop_msg.specs.declared.Incoming.{Incoming}
-use Rattle.giop_msg.specs.declared.Incoming.TheVariants as incoming
 use Rattle.replay_run.proofs.Same.{Givens, Still, givens_life, givens_then, same_givens, still_collects}
 use Rattle.poad_answer.specs.Meaning.{Answers, GivesBehind}
-use Rattle.poad_answer.specs.Messages.{GivesAsked}
 use Rattle.poad_answer.specs.Run.{life_at_answer}
 use Rattle.poad_answer.specs.Serving.{GivesCall, GivesReplies, IsServing, Works, by_core, works_out, works_on}
 
@@ -93,16 +90,14 @@ works_givens a b (works_on l last e makes more) =
     (record { config = refl; run = refl; limit = refl; opening = refl; going = (turn_apart l.config l.run l.history 0 e makes.next).going l.history })
     (works_givens (with_entry e l) last more)
 
--- what was asked leaves the givens of the run as they are
-pub asked_givens : (a : Life) (asked : Incoming) (size : ℕ) (bytes : List ℕ) (b : Life) → GivesAsked GivesCall a asked size bytes b → Givens a b
-asked_givens a (incoming.Call call) size bytes b g =
-    (let arrived : Life = with_entry (Arrive 0 size call) a in
+-- a call leaves the givens of the run as they are
+pub call_givens : (a : Life) (call : Call) (size : ℕ) (bytes : List ℕ) (b : Life) → GivesCall a call size bytes b → Givens a b
+call_givens a call size bytes b g =
+    let arrived : Life = with_entry (Arrive 0 size call) a in
     let first : Givens a arrived = record { config = refl; run = refl; limit = refl; opening = refl; going = λ w. refl } in
     givens_then a arrived b first
     (givens_then arrived g.worked b (works_givens arrived g.worked g.works)
-    (same_givens g.worked b (still_collects reply_bytes 0 g.worked bytes b g.collects).same)))
-asked_givens a (incoming.Cancel id) size bytes b g = subst (λ (l : Life). Givens a l) (sym g.1) (givens_life a)
-asked_givens a incoming.Closing size bytes b g = absurd g
+    (same_givens g.worked b (still_collects reply_bytes 0 g.worked bytes b g.collects).same))
 
 pub idle_so : (old new : Life) (out : StepOut) (over : Bool) → out ≡ step_out.Idle over → Steps 0 old (Ok out) new → IsServing old.history → Works old new
     × IsServing new.history

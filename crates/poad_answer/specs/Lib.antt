@@ -1,8 +1,8 @@
 pub mod Meaning
-pub mod Messages
+pub mod Calls
 pub mod Stop
-pub mod Service
 pub mod Piece
+pub mod Closing
 pub mod Source
 pub mod Serving
 pub mod Run

@@ -1,7 +1,7 @@
 -- What a run of `names` did, and how it ended.
 use Rattle.std.specs.Prelude.{◌≡◌, ℕ, List, [], ◌++◌, Option}
 use Rattle.outside.specs.Told.{IfTold}
-use Rattle.giop_frame.specs.Stream.{Framed}
+use Rattle.session_laws.specs.Hearing.{Heard}
 use Rattle.naming_context.specs.Standing.{Change}
 use Rattle.poad_files.specs.Delivery.{Hands}
 use Rattle.poad_files.specs.declared.status.Status.{Status}
@@ -11,7 +11,7 @@ use Rattle.poad_answer.specs.declared.end.End.TheVariants as end
 use Rattle.poad_answer.specs.declared.names_end.NamesEnd.{NamesEnd}
 use Rattle.poad_answer.specs.declared.names_end.NamesEnd.TheVariants.{Ended, Malformed, ReadFault, WriteFault, Truncated, WantMemory, InputLimit}
 use Rattle.poad_answer.specs.declared.stop.Stop.{Stop}
-use Rattle.poad_answer.specs.Messages.{MessageGives, Serves}
+use Rattle.poad_answer.specs.Calls.{Serves}
 use Rattle.poad_answer.specs.NamesServing.{GivesNoted, RefusesNone}
 use Rattle.poad_answer.specs.Source.{SourceEnds, is_written}
 use Rattle.poad_answer.specs.Stop.{ClosesIn, StopsAt, last_words}
@@ -32,12 +32,12 @@ end_of WantMemory = end.WantMemory
 pub record RunNames (ending : NamesEnd) (left_old left_new held_old held_new : Option (List ℕ)) : Type 0 where
   pub got : List ℕ
   pub took : IfTold left_old left_new (λ old new. old ≡ got ++ new)
-  pub messages : List Framed
+  pub calls : List Heard
   pub replies : List ℕ
   pub changes : List Change
-  pub served : Serves (MessageGives GivesNoted) [] messages replies changes
+  pub served : Serves GivesNoted [] calls replies changes
   pub why : Stop
-  pub stops : StopsAt RefusesNone why got messages
+  pub stops : StopsAt RefusesNone why got calls
   pub minor : ℕ
   pub closes : ClosesIn why got minor
   pub gave : IfTold held_old held_new (Hands (is_written (end_of ending)) (replies ++ last_words minor why))

@@ -9,13 +9,13 @@ use Rattle.history_laws.specs.Lasting.{KeepsUpdates, LeavesNothing}
 use Rattle.poa_history.specs.Life.{Life, with_entry, opened}
 use Rattle.poa_core.specs.Answers.{unadmitted}
 use Rattle.replay_run.specs.Opening.{life_at_first}
-use Rattle.giop_frame.specs.Stream.{Framed}
+use Rattle.session_laws.specs.Hearing.{Heard}
 use Rattle.poad_files.specs.declared.status.Status.{Status}
 use Rattle.poad_files.specs.declared.status.Status.TheVariants.{Ok, Malformed, ReadFault, WriteFault, Truncated, Held, Limit, WantMemory, InputLimit}
 use Rattle.poad_answer.specs.declared.stop.Stop.{Stop}
 use Rattle.poad_answer.specs.declared.end.End.{End}
 use Rattle.poad_answer.specs.declared.end.End.TheVariants as end
-use Rattle.poad_answer.specs.Messages.{MessageGives, Serves}
+use Rattle.poad_answer.specs.Calls.{Serves}
 use Rattle.poad_answer.specs.Serving.{GivesCall, RefusesCall}
 use Rattle.poad_answer.specs.Source.{IsRead, SourceEnds}
 use Rattle.poad_answer.specs.Stop.{ClosesIn, StopsAt, last_words}
@@ -58,12 +58,12 @@ IsKeptBy status c life =
 pub record RunAnswers (c : Config) (status : Status) (left_old left_new held_old held_new : Option (List ℕ)) : Type 0 where
   pub got : List ℕ
   pub took : IfTold left_old left_new (λ old new. old ≡ got ++ new)
-  pub messages : List Framed
+  pub calls : List Heard
   pub replies : List ℕ
   pub life : Life
-  pub served : Serves (MessageGives GivesCall) (life_at_answer c) messages replies life
+  pub served : Serves GivesCall (life_at_answer c) calls replies life
   pub why : Stop
-  pub stops : StopsAt (RefusesCall life) why got messages
+  pub stops : StopsAt (RefusesCall life) why got calls
   pub minor : ℕ
   pub closes : ClosesIn why got minor
   pub gave : IfTold held_old held_new (Gains status (replies ++ last_words minor why))

@@ -1,14 +1,14 @@
 -- How a source was served, whoever answers.
 use Rattle.std.specs.Prelude.{◌≡◌, ℕ, ◌^◌, ◌<◌, List, [], ◌++◌, ◌⊎◌, Bool, true, false, Option, length, ⊤}
 use Rattle.outside.specs.Told.{IfTold}
-use Rattle.giop_frame.specs.Stream.{Framed}
+use Rattle.session_laws.specs.Hearing.{Heard}
 use Rattle.poad_files.specs.Delivery.{Hands}
 use Rattle.poad_answer.specs.declared.end.End.{End}
 use Rattle.poad_answer.specs.declared.end.End.TheVariants.{Read, Malformed, Full, ReadFault, WriteFault, Truncated, InputLimit, WantMemory}
 use Rattle.poad_answer.specs.declared.stop.Stop.{Stop}
 use Rattle.poad_answer.specs.declared.stop.Stop.TheVariants as stop
 use Rattle.poad_answer.specs.Meaning.{Meaning}
-use Rattle.poad_answer.specs.Messages.{MessageGives, Serves}
+use Rattle.poad_answer.specs.Calls.{Serves}
 use Rattle.poad_answer.specs.Stop.{ClosesIn, StopsAt, last_words}
 
 -- nothing is left of the source
@@ -56,13 +56,13 @@ IsLeft _ last new = ⊤
 pub record ServesSource {A : Type 0} (m : Meaning A) (end : End) (old new : A) (left_old left_new held_old held_new : Option (List ℕ)) : Type 0 where
   pub got : List ℕ
   pub took : IfTold left_old left_new (λ before now. before ≡ got ++ now)
-  pub messages : List Framed
+  pub calls : List Heard
   pub replies : List ℕ
   pub last : A
-  pub served : Serves (MessageGives m.gives) old messages replies last
+  pub served : Serves m.gives old calls replies last
   pub fits : m.fits last
   pub why : Stop
-  pub stops : StopsAt (m.refuses last) why got messages
+  pub stops : StopsAt (m.refuses last) why got calls
   pub minor : ℕ
   pub closes : ClosesIn why got minor
   pub gave : IfTold held_old held_new (Hands (is_written end) (replies ++ last_words minor why))

@@ -7,7 +7,6 @@ ghost use Rattle.poad_answer.specs.Run.{RunAnswers, TellsEnd, TellsHeld, life_at
 ghost use Rattle.poad_answer.specs.Serving.{IsLegalRun};
 
 use crate::end::End;
-use crate::service::Service;
 use crate::source::serve_source;
 use outside::{Sink, Source};
 use poa_base::limits::CALLS;
@@ -34,12 +33,11 @@ pub(crate) fn answer<S: Source, K: Sink>(
     ensures written { HasCause (K.write_faults sink.old) (K.write_faults sink.new)
         (result ≡ Status.WriteFault) }
 {
-    let Ok(core) = entered(alloc, config) else {
+    let Ok(mut core) = entered(alloc, config) else {
         return Status::WantMemory;
     };
-    let mut service = Service::new(alloc, core);
-    let end = serve_source(alloc, &mut service, source, sink);
-    status_of(end, &service.answerer)
+    let end = serve_source(alloc, &mut core, source, sink);
+    status_of(end, &core)
 }
 
 // The run of a configuration, once its one connection has entered.

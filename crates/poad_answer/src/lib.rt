@@ -4,13 +4,14 @@
 
 mod answerer;
 mod answering;
+mod closing;
 mod configured;
 mod contexts_answerer;
 mod core_answerer;
 mod end;
 mod names_end;
 mod names_run;
-mod service;
+mod serving;
 mod source;
 mod stop;
 mod turns;

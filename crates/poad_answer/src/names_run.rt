@@ -7,7 +7,6 @@ ghost use Rattle.poad_answer.specs.Whole.{IsWholeInput};
 
 use crate::end::End;
 use crate::names_end::NamesEnd;
-use crate::service::Service;
 use crate::source::serve_source;
 use naming_context::Contexts;
 use outside::{Sink, Source};
@@ -52,8 +51,8 @@ fn serve_names<S: Source, K: Sink>(alloc: Global, source: &mut S, sink: &mut K) 
     ensures written { HasCause (K.write_faults sink.old) (K.write_faults sink.new)
         (result ≡ NamesEnd.WriteFault) }
 {
-    let mut service = Service::new(alloc, Contexts::new(alloc));
-    let end = serve_source(alloc, &mut service, source, sink);
+    let mut contexts = Contexts::new(alloc);
+    let end = serve_source(alloc, &mut contexts, source, sink);
     names_end(end)
 }
 

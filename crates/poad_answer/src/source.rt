@@ -1,17 +1,17 @@
 //! The loop over a source, whoever answers.
-ghost use Rattle.std.specs.Prelude.{◌≡◌, ◌+◌, ◌^◌, ◌<◌, false, ◌≢◌, [], length, None, Some};
+ghost use Rattle.std.specs.Prelude.{◌≡◌, ◌<◌, false, ◌≢◌, length};
 ghost use Rattle.outside.specs.Cause.{HasCause};
 ghost use Rattle.outside.specs.Reading.{IsWithin, Delivers};
 ghost use Rattle.outside.specs.Told.{IfTold};
-ghost use Rattle.giop_frame.specs.Framer.{reach};
-ghost use Rattle.poad_answer.specs.Service.{IsNew, IsReady};
-ghost use Rattle.poad_answer.specs.Piece.{EndsAt, TakesPiece};
+ghost use Rattle.poad_answer.specs.Closing.{EndsAt};
 ghost use Rattle.poad_answer.specs.Source.{ServesSource};
 
 use crate::answerer::Answerer;
+use crate::closing::{close, waiting, write_replies};
 use crate::end::End;
-use crate::service::Service;
+use crate::serving::take_piece;
 use outside::{Sink, Source, Took};
+use session_laws::{Input, Peer};
 use std::alloc::Global;
 
 /// How much a read takes at most.
@@ -25,14 +25,13 @@ const INPUT_LIMIT: u64 = 1 << 32;
 /// does, of the version of the first message, and of 1.2 where there is none.
 pub(crate) fn serve_source<A: Answerer, S: Source, K: Sink>(
     alloc: Global,
-    service: &mut Service<A>,
+    answerer: &mut A,
     source: &mut S,
     sink: &mut K,
 ) -> End
-    requires new { IsNew service.old }
-    requires fits { A.meaning.fits service.old.answerer }
+    requires fits { A.meaning.fits answerer.old }
     requires patient { S.is_waiting source.old ≡ false }
-    ensures serves { ServesSource A.meaning result service.old.answerer service.new.answerer
+    ensures serves { ServesSource A.meaning result answerer.old answerer.new
         (S.left source.old) (S.left source.new) (K.held sink.old) (K.held sink.new) }
     ensures read { HasCause (S.read_faults source.old) (S.read_faults source.new)
         (result ≡ End.ReadFault) }
@@ -42,16 +41,25 @@ pub(crate) fn serve_source<A: Answerer, S: Source, K: Sink>(
     let Ok(mut buffer) = Vec::from_elem(alloc, 0u8, PIECE) else {
         return End::WantMemory;
     };
+    let mut input = Input::new(alloc, Peer::Client);
+    let mut replies = Vec::new(alloc);
+    let mut left_over = 0;
     let mut taken = 0;
     while taken < INPUT_LIMIT {
         match read_front(source, &mut buffer, INPUT_LIMIT - taken) {
             Took::Got(count) => {
                 taken += count as u64;
-                if let Some(end) = take_piece(alloc, service, &buffer[..count], sink) {
-                    return end;
+                let piece = &buffer[..count];
+                let why = take_piece(alloc, answerer, &mut input, piece, &mut replies);
+                let Some(have) = waiting(why) else {
+                    return close(input, why, replies.as_slice(), sink);
+                };
+                if !write_replies(&mut replies, sink) {
+                    return End::WriteFault;
                 }
+                left_over = have;
             }
-            Took::End => return ended(service),
+            Took::End => return ended(left_over),
             Took::Failed => return End::ReadFault,
             // Never comes, since the source doesn't wait.
             Took::Quiet => return End::ReadFault,
@@ -77,40 +85,11 @@ fn read_front<S: Source>(source: &mut S, buffer: &mut [u8], most: u64) -> Took
     source.read(&mut buffer[..room])
 }
 
-// Serves the messages that a piece makes whole and writes their replies. How serving ends, where it does.
-fn take_piece<A: Answerer, K: Sink>(
-    alloc: Global,
-    service: &mut Service<A>,
-    piece: &[u8],
-    sink: &mut K,
-) -> Option<End>
-    requires room { reach service.old.framer + length piece.now < 2 ^ 62 }
-    requires delivered { service.old.replies.items ≡ [] }
-    requires ready { IsReady A.meaning service.old }
-    ensures takes { TakesPiece A.meaning result piece.now service.old service.new
-        (K.held sink.old) (K.held sink.new) }
-    ensures written { HasCause (K.write_faults sink.old) (K.write_faults sink.new)
-        (result ≡ Some End.WriteFault) }
-    ensures ready { result ≡ None → IsReady A.meaning service.new }
+// How serving ends at the end of the source, where so many bytes belong to no message.
+fn ended(left_over: u64) -> End
+    ensures { EndsAt result left_over }
 {
-    let Ok(()) = service.framer.feed(piece) else {
-        return Some(End::WantMemory);
-    };
-    let why = service.serve(alloc);
-    let Ok(minor) = service.closing_minor(why) else {
-        return Some(End::WantMemory);
-    };
-    if !service.write_replies(why, minor, sink) {
-        return Some(End::WriteFault);
-    }
-    service.settle(why)
-}
-
-// How serving ends at the end of the source.
-fn ended<A>(service: &Service<A>) -> End
-    ensures { EndsAt result service.now.waiting }
-{
-    match service.waiting {
+    match left_over {
         0 => End::Read,
         have => End::Truncated { have },
     }

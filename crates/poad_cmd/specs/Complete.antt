@@ -6,7 +6,6 @@ use Rattle.command_words.specs.Auditing.{Audit, LinkNames}
 use Rattle.command_words.specs.Explaining.{Explain}
 use Rattle.command_words.specs.Serving.{Serve}
 use Rattle.command_words.specs.Words.{Meant, answer, audit, explain, load, names, show, check, iors, migrate, loc, replay}
-use Rattle.giop_frame.specs.Stream.{Framed, Stream, left_over}
 use Rattle.history_standing.specs.Arrivals.{connections}
 use Rattle.outside.specs.Cause.{Rose}
 use Rattle.outside.specs.Keeping.{Contents}
@@ -20,14 +19,13 @@ use Rattle.poa_history.specs.Life.{Life}
 use Rattle.poa_history.specs.Limits.{filled_at}
 use Rattle.poa_journal.specs.Whole.{Contents as JournalContents, contents_of}
 use Rattle.poad_answer.specs.Run.{life_at_answer}
-use Rattle.poad_answer.specs.Messages.{MessageGives, Serves}
+use Rattle.poad_answer.specs.Calls.{Serves}
 use Rattle.poad_answer.specs.Serving.{GivesCall}
-use Rattle.poad_answer.specs.Stop.{Comes, IsClosing, message_limit}
 use Rattle.poad_answer.specs.declared.configured.TheConstants.{BUILT_IN}
 use Rattle.journal_audit.specs.Matching.{LinkBytes, IsSession}
 use Rattle.journal_audit.specs.Texts.{givens_in}
 use Rattle.poad_audit.specs.Auditing.{journal_limit, link_limit}
-use Rattle.poad_answer.specs.Whole.{IsWholeInput as IsWholeNaming}
+use Rattle.poad_answer.specs.Whole.{HearsWhole, IsWholeInput as IsWholeNaming}
 use Rattle.poad_files.specs.Locating.{IsLocLine}
 use Rattle.poad_files.specs.Referring.{GivesWritten, Refers}
 use Rattle.poad_files.specs.StateFile.{ReadsState, state_limit}
@@ -36,7 +34,7 @@ use Rattle.replay_run.specs.Playing.{IsPlayed}
 use Rattle.replay_run.specs.declared.Played.{Played}
 use Rattle.replay_script.specs.declared.Script.{Script}
 use Rattle.serve_run.specs.declared.doors.Doors.{Doors}
-use Rattle.session_laws.specs.Hearing.{Heard, HearsMessages, closed, over}
+use Rattle.session_laws.specs.Hearing.{Heard}
 
 -- no count of faults of reading, of writing and of taking files rises, nor stands at the end of its type
 pub record IsCalm (reads_old reads_new writes_old writes_new takes_old takes_new : ℕ) : Type 0 where
@@ -85,13 +83,11 @@ bytes_in (heard ∷ more) = heard.size + bytes_in more
 -- run and of one input; served by the configuration, all its calls are admitted
 pub record IsWholeInput (c : Config) (text : List ℕ) : Type 0 where
   pub calls : List Heard
-  pub whole : HearsMessages text calls closed ⊎ HearsMessages text calls (over 0)
+  pub whole : HearsWhole text calls
   pub short : length text < 2 ^ 32
   pub few : length calls ≤ 4000000
   pub small : bytes_in calls ≤ 2 ^ 30
-  pub admitted : (messages : List Framed) (replies : List ℕ) (life : Life)
-      → Serves (MessageGives GivesCall) (life_at_answer c) messages replies life
-      → Comes text messages IsClosing ⊎ Stream message_limit text messages (left_over 0) → unadmitted life.history ≡ 0
+  pub admitted : (replies : List ℕ) (life : Life) → Serves GivesCall (life_at_answer c) calls replies life → unadmitted life.history ≡ 0
 
 -- a script that, played on the configuration, meets no limit and leaves no call unadmitted
 abbrev pub IsWholeScript : Config → Script → Type 0

@@ -1,7 +1,6 @@
 -- The same end, and what the messages changed.
 use Rattle.std.proofs.Common.{ap, sym, ◌∙◌, arith}
 use Rattle.poad_files.proofs.Causes.{cause_from}
-use Rattle.naming_context.specs.Kept.{standing_of}
 use Rattle.poad_answer.specs.NamesRun.{end_of}
 use Rattle.poad_answer.proofs.Named.{named, never_full}
 use Rattle.poad_answer.proofs.names_run.serve_names.Goals as goal
@@ -11,7 +10,7 @@ names_end-requires g c = never_full c.serve_source-end.result _ _ _ _ _ _ c.serv
 
 pub returns-clause-names : goal.returns-clause-names
 returns-clause-names g c =
-    named c.names_end.result c.serve_source-end.result _ _ _ _ _ _ (ap standing_of c.new-service.ensures.answerer ∙ c.new.ensures) c.names_end.ensures
+    named c.names_end.result c.serve_source-end.result _ _ _ _ _ _ c.new-contexts.ensures c.names_end.ensures
     c.serve_source-end.ensures.serves
 
 pub returns-clause-read : goal.returns-clause-read
