@@ -20,3 +20,4 @@ pub mod ReplyFits
 pub mod NextTurn
 pub mod Filling
 pub mod ArrivedThen
+pub mod Served

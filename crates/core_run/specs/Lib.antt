@@ -1,4 +1,5 @@
 pub mod Turning
+pub mod Service
 pub mod Known
 pub mod ToCome
 pub mod Agreeing

@@ -3,6 +3,7 @@ ghost use Rattle.std.specs.Prelude.{◌≡◌, ℕ, List};
 ghost use Rattle.poa_base.specs.declared.Config.{Config};
 ghost use Rattle.poa_base.specs.declared.Entry.{Entry as EntryOf};
 ghost use Rattle.held_queue.specs.Frees as frees;
+ghost use Rattle.history_standing.specs.Stages.{stage};
 ghost use Rattle.poa_history.specs.Entries.{stage_at};
 ghost use Rattle.core_standing.specs.Answers.{AnswersAs};
 ghost use Rattle.core_standing.specs.Seen.{seen};
@@ -63,6 +64,15 @@ fn etherealizing(standing: &Standing, begun: Stage) -> Freed
     }
 }
 
+/// What the end of the request that a worker ran frees of what holds calls, by what stands before it.
+pub fn landed(standing: &Standing, begun: Stage) -> Freed
+    ensures { (c : Config) (run : ℕ) (past : List EntryOf) (w : ℕ)
+        → AnswersAs c run past (seen standing.now) → begun ≡ stage past w
+        → result ≡ frees.freed_by c run past (EntryOf.Done w) }
+{
+    landing(standing, arrival_in(begun))
+}
+
 /// What an entry frees of what holds calls, by what stands before it and what its worker had begun.
 pub fn freed_by(standing: &Standing, begun: Stage, entry: &Entry) -> Freed
     ensures { (c : Config) (run : ℕ) (past : List EntryOf)
@@ -79,7 +89,7 @@ pub fn freed_by(standing: &Standing, begun: Stage, entry: &Entry) -> Freed
         }
         Entry::Tried { .. } => Freed::everything(),
         Entry::Incarnated { .. } => incarnating(standing, begun),
-        Entry::Done { .. } => landing(standing, arrival_in(begun)),
+        Entry::Done { .. } => landed(standing, begun),
         Entry::TakeOut {
             activation,
             etherealize: false,

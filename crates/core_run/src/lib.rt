@@ -16,6 +16,7 @@ mod noting;
 mod quieting;
 mod room;
 mod run;
+mod running;
 mod serving;
 mod stepping;
 mod tables;

@@ -30,7 +30,7 @@ fn most(inside: &Inside) -> Option<usize>
 }
 
 /// Makes room in the journal for one entry more; all else is as it was.
-fn make_room_in_journal(inside: &mut Inside) -> Result<(), WantMemory>
+pub fn make_room_in_journal(inside: &mut Inside) -> Result<(), WantMemory>
     requires { IsKept inside.old }
     ensures space { OnOk result (HasSpace 2 inside.new) }
     ensures whole { OnOk result (0 < inside.new.entries.spare) }

@@ -9,7 +9,8 @@ ghost use Rattle.held_queue.specs.Frees.{freed_by};
 ghost use Rattle.held_queue.specs.Numbers.{HasRoom};
 ghost use Rattle.poa_history.specs.Waiting.{may_queue};
 ghost use Rattle.core_arrivals.specs.Tallies.{HasRoomFor, HasRoomForOne};
-ghost use Rattle.core_run.specs.Known.{TablesAgree, TablesStay};
+ghost use Rattle.core_run.specs.Known.{TablesAgree, TablesFollow, TablesStay};
+ghost use Rattle.core_run.specs.Service.{is_service};
 
 use core_arrivals::{Calls, Queue, Tally, Workers, calls, queue, workers};
 use held_queue::{Freed, HeldQueue};
@@ -55,6 +56,16 @@ impl Tables {
         queue::reserve(&mut self.queue)?;
         self.held.reserve()?;
         core_arrivals::reserve(&mut self.tally)
+    }
+
+    /// A request runs or ends. They are given what its worker had begun, and what the entry frees. Takes no memory.
+    pub fn serve(&mut self, entry: &Entry, stage: Stage, freed: Freed)
+        requires { is_service entry.now ≡ true }
+        ensures { TablesFollow entry.now stage freed self.old self.new }
+    {
+        let arrivals = self.tally.arrivals;
+        self.held.advance(entry, arrivals, stage, freed);
+        workers::advance(entry, &mut self.workers);
     }
 
     /// An entry comes behind the journal's, for which there is room. It is given what the entry's worker had begun, and

@@ -61,33 +61,8 @@ fn call_admitted<'a>(coming: &Coming<'a>) -> Option<&'a Call>
     }
 }
 
-/// A request runs: its servant acts, and the outcome decides it.
-fn ran(
-    alloc: Global,
-    config: &Config,
-    run: u32,
-    coming: &Coming<'_>,
-    state: &mut State,
-) -> Result<Option<Decision>, WantMemory>
-    requires asked { ComesInTurn config.now run coming.now state.old }
-    requires kind { (w : ℕ) × (coming.now.entry.now ≡ EntryOf.Run w) }
-    ensures ok { TurnFollows config.now run coming.now state.old result state.new }
-    ensures decides { TurnDecides config.now run coming.now state.old result }
-    ensures err { StateStays config.now run state.old result state.new }
-{
-    let outcome = core_state::advance(alloc, config, run, coming, state)?;
-    decision_of(
-        alloc,
-        config,
-        coming.entry,
-        coming.stage,
-        coming.call,
-        &state.settings,
-        outcome,
-    )
-}
-
-/// Any other entry: what it decides is told by what stood before it.
+/// An entry of a worker, but a Run, changes what stands, and what it decides is told by what stood before it; or nothing
+/// changes.
 #[tactic(auto, using(crate::proofs::Ends::wants_none))]
 fn told(
     alloc: Global,
@@ -120,27 +95,7 @@ fn told(
     Ok(decision)
 }
 
-/// An entry of a worker changes what stands, and what it decides is told; or nothing changes.
-fn decide(
-    alloc: Global,
-    config: &Config,
-    run: u32,
-    coming: &Coming<'_>,
-    state: &mut State,
-) -> Result<Option<Decision>, WantMemory>
-    requires { ComesInTurn config.now run coming.now state.old }
-    ensures ok { TurnFollows config.now run coming.now state.old result state.new }
-    ensures decides { TurnDecides config.now run coming.now state.old result }
-    ensures err { StateStays config.now run state.old result state.new }
-    ensures ends { only_ends coming.now.entry.now ≡ true → IsOk result }
-{
-    match coming.entry {
-        Entry::Run { .. } => ran(alloc, config, run, coming, state),
-        _ => told(alloc, config, run, coming, state),
-    }
-}
-
-/// An entry of a worker changes what stands, and what it brings is told; or nothing changes. One with which what was
+/// An entry of a worker, but a Run, changes what stands, and what it brings is told; or nothing changes. One with which what was
 /// begun only ends takes no memory.
 #[tactic(auto, using(crate::proofs::Ends::admits_none))]
 pub fn bring(
@@ -150,7 +105,8 @@ pub fn bring(
     coming: &Coming<'_>,
     state: &mut State,
 ) -> Result<Brought, WantMemory>
-    requires { ComesInTurn config.now run coming.now state.old }
+    requires asked { ComesInTurn config.now run coming.now state.old }
+    requires kind { turning.is_run coming.now.entry.now ≡ false }
     ensures ok { TurnFollows config.now run coming.now state.old result state.new }
     ensures brought { TurnBrings config.now run coming.now state.old result }
     ensures err { StateStays config.now run state.old result state.new }
@@ -160,7 +116,7 @@ pub fn bring(
     let wait = wait_by(config, &state.standing, coming.entry, admits)?;
     let ordered = ordered_by(config, coming.entry, admits)?;
     let freed = freed_by(&state.standing, coming.stage, coming.entry);
-    let decision = decide(alloc, config, run, coming, state)?;
+    let decision = told(alloc, config, run, coming, state)?;
     Ok(Brought {
         decision,
         wait,

@@ -9,6 +9,7 @@ use Rattle.history_standing.specs.Ends.{is_over}
 use Rattle.history_standing.specs.Standings.{Standing}
 use Rattle.history_standing.specs.Trees.{In}
 use Rattle.history_standing.specs.declared.stage.Stage.{Stage}
+use Rattle.history_standing.specs.Stages.{arrival_in, stage}
 use Rattle.poa_history.specs.Entries.{call_admitted, stage_at}
 use Rattle.active_map.specs.Live.{live}
 use Rattle.core_standing.specs.Seen.{forgotten}
@@ -49,3 +50,7 @@ StandingFollows c run e begun call old result new = (past : List Entry) → old 
 abbrev pub KeptFollows : {T E : Type 0} → Config → ℕ → Entry → Stage → Option Call → Standing → Result T E → Standing → Type 0
 KeptFollows c run e begun call old result new = (past : List Entry) → StandingAgrees c run past old → begun ≡ stage_at past e
     → call ≡ call_admitted past e → OnOk result (StandingAgrees c run (e ∷ past) new)
+
+-- what holds of each history after which this is kept, and in which a worker is at this arrival
+abbrev pub WhereItIsAt : Config → Option ℕ → Standing → (ℕ → List Entry → ℕ → Type 0) → Type 0
+WhereItIsAt c r kept says = (run : ℕ) (past : List Entry) (w : ℕ) → StandingAgrees c run past kept → r ≡ arrival_in (stage past w) → says run past w

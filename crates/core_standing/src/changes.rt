@@ -1,15 +1,15 @@
 //! What an entry changes, and so what stands after a history.
-ghost use Rattle.std.specs.Prelude.{◌≡◌, ◌≤◌, ◌<◌, ◌^◌, ℕ, List, None, false, true, if◌then◌else◌, length, reverse, option_copied, IfOk, IsOk, OnOk, OnErr};
+ghost use Rattle.std.specs.Prelude.{◌≡◌, ◌≤◌, ◌<◌, ◌^◌, ◌∷◌, ℕ, List, None, false, true, if◌then◌else◌, length, reverse, option_copied, IfOk, IsOk, OnOk, OnErr};
 ghost use Rattle.std.specs.List.{list_any};
 ghost use Rattle.poa_base.specs.declared.Entry.{Entry};
-ghost use Rattle.poa_base.specs.declared.Entry.TheVariants.{Incarnated, Tried};
+ghost use Rattle.poa_base.specs.declared.Entry.TheVariants.{Done, Incarnated, Tried};
 ghost use Rattle.history_standing.specs.Changes as changes;
 ghost use Rattle.history_standing.specs.Ends.{is_over};
 ghost use Rattle.history_standing.specs.Opening as opens;
 ghost use Rattle.history_standing.specs.Keys as keys;
 ghost use Rattle.history_standing.specs.Logs.{command_in as command_of, is_accepted as accepts};
 ghost use Rattle.poa_history.specs.Entries as entries;
-ghost use Rattle.core_standing.specs.Kept.{KeepsNoneOver, StandingAgrees, KeptFollows, StandingFollows, WhereItComes};
+ghost use Rattle.core_standing.specs.Kept.{KeepsNoneOver, StandingAgrees, KeptFollows, StandingFollows, WhereItComes, WhereItIsAt};
 ghost use Rattle.core_standing.specs.Seen.{seen};
 
 use crate::asked_commands::{command_in, is_accepted};
@@ -21,7 +21,7 @@ use crate::keys::key_in;
 use crate::lives::{complete, etherealize, take_out};
 use crate::settling::settle;
 use crate::standing::Standing;
-use crate::touched::touched_by;
+use crate::touched::{by_landing, touched_by};
 use history_standing::{Phase, Stage};
 use poa_base::{Attempt, Call, Config, Entry, Incarnation, Path, Sid, Verdict, WantMemory};
 use poa_history::calls::call_of;
@@ -276,6 +276,23 @@ pub fn advance_kept(
         standing.activations.numbers();
     }
     Ok(())
+}
+
+/// The request of the arrival that a worker is at ends, and what has ended with it goes, as `advance_kept` does it with the
+/// Done. Takes no memory.
+pub fn land(config: &Config, arrival: Option<u64>, standing: &mut Standing)
+    ensures lands { WhereItIsAt config.now arrival (seen standing.old)
+        (λ run past w. StandingAgrees config.now run (Done w ∷ past) (seen standing.new)) }
+    ensures forgets { WhereItIsAt config.now arrival (seen standing.old)
+        (λ run past w. KeepsNoneOver config.now (seen standing.old)
+        → list_any (is_over config.now) standing.new.activations.kept ≡ false) }
+{
+    let touched = by_landing(arrival, &standing.flights);
+    standing.activations.numbers();
+    end_flight(standing, arrival);
+    settle(config, standing, touched, false);
+    forget(config, standing, touched);
+    standing.activations.numbers();
 }
 
 /// What the worker of an entry had begun.

@@ -23,5 +23,5 @@ mod standing;
 mod touched;
 
 pub use beginning::opening;
-pub use changes::{advance, advance_kept, standing_of};
+pub use changes::{advance, advance_kept, land, standing_of};
 pub use standing::Standing;

@@ -97,6 +97,17 @@ fn by_incarnation(stage: Stage, flights: &[Flight]) -> Touched
     }
 }
 
+/// What a request that ends touches: that in which it is in flight.
+pub fn by_landing(arrival: Option<u64>, flights: &[Flight]) -> Touched
+    ensures leaves { (c : Conf) (s : Stood) → s.flights ≡ flights.now → Still c s
+        → Others c (is_touched result) (changes.without_flight arrival s) }
+    ensures same { (s : Stood)
+        → SameOthers (is_touched result) s.activations
+        (changes.without_flight arrival s).activations }
+{
+    with_ended(Touched::Nothing, flights, arrival)
+}
+
 /// What the servant that was taken down touches.
 fn by_removal(stage: Stage) -> Touched
     ensures leaves { (c : Conf) (s : Stood) → Still c s
