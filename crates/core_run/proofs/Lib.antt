@@ -21,3 +21,4 @@ pub mod NextTurn
 pub mod Filling
 pub mod ArrivedThen
 pub mod Served
+pub mod Begins

@@ -1,4 +1,7 @@
 //! What an entry brings.
+ghost use Rattle.std.specs.Prelude.{◌≡◌};
+ghost use Rattle.core_run.specs.Service as service;
+
 use core_outboxes::{Decision, Ordered, Wait};
 use held_queue::Freed;
 
@@ -13,4 +16,18 @@ pub struct Brought {
     pub ordered: Option<Ordered>,
     /// What it frees of what holds calls.
     pub freed: Freed,
+}
+
+impl Brought {
+    /// Nothing.
+    pub fn nothing() -> Brought
+        ensures { result ≡ service.nothing }
+    {
+        Brought {
+            decision: None,
+            wait: None,
+            ordered: None,
+            freed: Freed::nothing(),
+        }
+    }
 }

@@ -5,6 +5,7 @@
 #![tactic(auto)]
 
 mod abandoning;
+mod admitting;
 mod arriving;
 mod beginning;
 mod brought;

@@ -6,7 +6,6 @@ ghost use Rattle.core_run.specs.Kept.{IsQuiet};
 use crate::brought::Brought;
 use crate::inside::Inside;
 use crate::noting::note;
-use held_queue::Freed;
 use history_standing::Stage;
 use poa_base::Entry;
 
@@ -16,11 +15,5 @@ pub fn quiet(inside: &mut Inside, entry: Entry)
     requires quiet { IsQuiet (history inside.old) entry inside.old }
     ensures { IsNoted entry inside.old inside.new }
 {
-    let brought = Brought {
-        decision: None,
-        wait: None,
-        ordered: None,
-        freed: Freed::nothing(),
-    };
-    note(inside, entry, Stage::Free, brought);
+    note(inside, entry, Stage::Free, Brought::nothing());
 }

@@ -8,6 +8,7 @@ ghost use Rattle.core_run.specs.Kept.{IsKept, life};
 ghost use Rattle.core_run.specs.ToCome.{is_ending};
 ghost use Rattle.core_run.specs.Turning.{is_run};
 
+use crate::admitting::{begin, begins};
 use crate::inside::Inside;
 use crate::noting::note;
 use crate::room::make_room_for;
@@ -18,7 +19,8 @@ use core_arrivals::workers;
 use core_state::Coming;
 use poa_base::{Entry, WantMemory};
 
-/// An entry of a worker, but a Run, is taken.
+/// An entry of a worker, but a Run, is taken. It stands by itself, so that those that come most get nothing ready for it.
+#[inline(never)]
 fn take_other(inside: &mut Inside, entry: Entry) -> Result<(), WantMemory>
     requires kept { IsKept inside.old }
     requires follows { IsRun inside.old.config inside.old.run inside.old.limit
@@ -74,6 +76,12 @@ pub fn take(inside: &mut Inside, entry: Entry) -> Result<(), WantMemory>
             end(inside, worker);
             Ok(())
         }
-        entry => take_other(inside, entry),
+        entry => {
+            if begins(&entry) {
+                begin(inside, entry)
+            } else {
+                take_other(inside, entry)
+            }
+        }
     }
 }

@@ -1,5 +1,4 @@
-use Rattle.std.proofs.Common.{None, sym, subst}
-use Rattle.held_queue.specs.declared.freed.Freed.{Freed}
+use Rattle.std.proofs.Common.{sym, subst}
 use Rattle.history_standing.specs.declared.stage.Stage.TheVariants.{Free}
 use Rattle.core_run.specs.Agrees.{history}
 use Rattle.core_run.specs.Noting.{IsHalfway}
@@ -9,6 +8,5 @@ use Rattle.core_run.proofs.quieting.quiet.Goals as goal
 pub note-requires-clause-halfway : goal.note-requires-clause-halfway
 note-requires-clause-halfway c =
     (let i = c.args.inside.now in
-    subst (λ (f : Freed). IsHalfway (history i) c.args.entry Free
-    (record { decision = None; wait = None; ordered = None; freed = f }) i) (sym c.nothing.ensures)
+    subst (λ b. IsHalfway (history i) c.args.entry Free b i) (sym c.nothing.ensures)
     (quiet_halfway (history i) c.args.entry i c.requires.quiet))

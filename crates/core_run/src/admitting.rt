@@ -1,0 +1,63 @@
+//! A request is admitted to be served: the third of the entries that come most, made without the ways of the others.
+ghost use Rattle.std.specs.Prelude.{◌≡◌, ◌∷◌, true, OnOk, OnErr};
+ghost use Rattle.poa_history.specs.Life.{with_entry};
+ghost use Rattle.poa_history.specs.Runs.{IsRun};
+ghost use Rattle.core_run.specs.Agrees.{history};
+ghost use Rattle.core_run.specs.Kept.{IsKept, life};
+ghost use Rattle.core_run.specs.Service as service;
+
+use crate::brought::Brought;
+use crate::inside::Inside;
+use crate::noting::note;
+use crate::room::make_room_in_journal;
+use crate::turning::call_at;
+use core_state::{Coming, advance};
+use history_standing::Stage;
+use poa_base::{Entry, Verdict, WantMemory};
+
+/// Whether a request is admitted with an entry to an activation, to a default servant, or to one that is located.
+pub fn begins(entry: &Entry) -> bool
+    ensures { result ≡ service.begins entry.now }
+{
+    matches!(
+        entry,
+        Entry::Admit {
+            verdict: Verdict::Serve(_) | Verdict::Preset(_) | Verdict::Locator(_),
+            ..
+        }
+    )
+}
+
+/// Such an entry is taken: the request is in flight and it stands in the journal, or nothing changes. It decides nothing,
+/// does no command and frees nothing.
+pub fn begin(inside: &mut Inside, entry: Entry) -> Result<(), WantMemory>
+    requires kept { IsKept inside.old }
+    requires follows { IsRun inside.old.config inside.old.run inside.old.limit
+        (entry ∷ history inside.old) }
+    requires kind { service.begins entry ≡ true }
+    ensures kept { IsKept inside.new }
+    ensures ok { OnOk result (life inside.new ≡ with_entry entry (life inside.old)) }
+    ensures err { OnErr result (life inside.new ≡ life inside.old) }
+{
+    make_room_in_journal(inside)?;
+    let coming = Coming {
+        entry: &entry,
+        stage: Stage::Free,
+        call: call_at(
+            &inside.entries,
+            &inside.tables.calls,
+            &entry,
+            Stage::Free,
+        ),
+        runs: None,
+    };
+    advance(
+        inside.alloc,
+        &inside.config,
+        inside.run,
+        &coming,
+        &mut inside.state,
+    )?;
+    note(inside, entry, Stage::Free, Brought::nothing());
+    Ok(())
+}
