@@ -22,3 +22,4 @@ pub mod Filling
 pub mod ArrivedThen
 pub mod Served
 pub mod Begins
+pub mod Proceeding

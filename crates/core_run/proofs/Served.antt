@@ -77,20 +77,30 @@ pub service_leaves_queue : (e : Entry) → is_service e ≡ true → changes_que
 service_leaves_queue = by_service (λ e. changes_queue e ≡ false) (λ _. refl) (λ _. refl)
 
 pub service_counts_none : (past : List Entry) (t : Tally) → TallyAgrees past t → (e : Entry) → is_service e ≡ true → TallyAgrees (e ∷ past) t
-service_counts_none past t is = by_service (λ e. TallyAgrees (e ∷ past) t) same same
-  where
-    same : {w : ℕ} → TallyAgrees (Run w ∷ past) t
-    same = record {
-      entered = is.entered;
-      leavers = is.leavers;
-      stayers = is.stayers;
-      calls = is.calls;
-      sizes = is.sizes;
-      full = is.full;
-      order = is.order;
-      end = is.end;
-      gave = is.gave;
-    }
+service_counts_none past t is =
+    by_service (λ e. TallyAgrees (e ∷ past) t)
+    (λ _. record {
+        entered = is.entered;
+        leavers = is.leavers;
+        stayers = is.stayers;
+        calls = is.calls;
+        sizes = is.sizes;
+        full = is.full;
+        order = is.order;
+        end = is.end;
+        gave = is.gave;
+      })
+    (λ _. record {
+        entered = is.entered;
+        leavers = is.leavers;
+        stayers = is.stayers;
+        calls = is.calls;
+        sizes = is.sizes;
+        full = is.full;
+        order = is.order;
+        end = is.end;
+        gave = is.gave;
+      })
 
 module _ (c : Config) (run limit : ℕ) (opened : Stored) (past : List Entry) (w : ℕ) (s : State) (state : StateAgrees c run opened past s) where
   module _ (follows : IsRun c run limit (Run w ∷ past)) where

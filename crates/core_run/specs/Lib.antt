@@ -1,5 +1,6 @@
 pub mod Turning
 pub mod Service
+pub mod Proceeds
 pub mod Known
 pub mod ToCome
 pub mod Agreeing

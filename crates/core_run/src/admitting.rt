@@ -40,15 +40,12 @@ pub fn begin(inside: &mut Inside, entry: Entry) -> Result<(), WantMemory>
     ensures err { OnErr result (life inside.new ≡ life inside.old) }
 {
     make_room_in_journal(inside)?;
+    let stage = Stage::Free;
+    let call = call_at(&inside.entries, &inside.tables.calls, &entry, stage);
     let coming = Coming {
         entry: &entry,
-        stage: Stage::Free,
-        call: call_at(
-            &inside.entries,
-            &inside.tables.calls,
-            &entry,
-            Stage::Free,
-        ),
+        stage,
+        call,
         runs: None,
     };
     advance(
@@ -58,6 +55,6 @@ pub fn begin(inside: &mut Inside, entry: Entry) -> Result<(), WantMemory>
         &coming,
         &mut inside.state,
     )?;
-    note(inside, entry, Stage::Free, Brought::nothing());
+    note(inside, entry, stage, Brought::nothing());
     Ok(())
 }

@@ -27,6 +27,7 @@ ghost use Rattle.poa_history.specs.Entries.{is_turn};
 ghost use Rattle.core_run.specs.Agreeing.{CountsAgree, QueuesAgree, RemovalsAgree};
 ghost use Rattle.core_run.specs.Gives.{Gives};
 ghost use Rattle.core_run.specs.Known.{TablesAgree};
+ghost use Rattle.core_run.specs.Proceeds.{Proceeds};
 ghost use Rattle.core_run.specs.ToCome.{is_ending};
 
 use crate::inside::Inside;
@@ -154,6 +155,18 @@ impl Run {
         ensures same { self.new ≡ self.old }
     {
         stepping::next(&mut self.inside, worker)
+    }
+
+    /// A worker below 16 that hasn't given the run up makes its next entry, if it has one: all of it takes effect, or nothing
+    /// changes. What was begun can always be ended.
+    pub fn proceed(&mut self, worker: u32) -> Result<bool, WantMemory>
+        requires worker { worker < 16 }
+        requires going { begun.is_abandoned self.old.history worker ≡ false }
+        ensures made { IfOk result (λ made. Proceeds worker made self.old self.new) }
+        ensures err { OnErr result (self.new ≡ self.old) }
+        ensures ends { only_ends (begun.stage self.old.history worker) ≡ true → IsOk result }
+    {
+        stepping::proceed(&mut self.inside, worker)
     }
 
     /// The number of the next connection; none where 4,000,000 entered.

@@ -1,12 +1,15 @@
 //! The next entry of a worker.
-ghost use Rattle.std.specs.Prelude.{◌≡◌, ◌<◌, true, IfOk, IsOk};
+ghost use Rattle.std.specs.Prelude.{◌≡◌, ◌<◌, true, false, IfOk, IsOk, OnErr};
 ghost use Rattle.history_standing.specs.Stages as begun;
 ghost use Rattle.poa_history.specs.Turns.{turn};
 ghost use Rattle.core_arrivals.specs.Begun.{only_ends};
 ghost use Rattle.core_run.specs.Agrees.{history};
 ghost use Rattle.core_run.specs.Kept.{IsKept, life};
+ghost use Rattle.core_run.specs.Proceeds.{Proceeds};
 
 use crate::inside::Inside;
+use crate::running::{end, run};
+use crate::taking::take;
 use core_arrivals::workers;
 use core_turns::Known;
 use history_standing::Stage;
@@ -58,4 +61,40 @@ pub fn next(inside: &mut Inside, worker: u32) -> Result<Option<Entry>, WantMemor
         Stage::Ran(_) => Ok(Some(Entry::Done { worker })),
         _ => asked(inside, worker),
     }
+}
+
+/// A worker that has nothing begun, or neither serves a request nor ran one, makes its next entry, if it has one.
+fn take_asked(inside: &mut Inside, worker: u32) -> Result<bool, WantMemory>
+    requires kept { IsKept inside.old }
+    requires worker { worker < 16 }
+    requires going { begun.is_abandoned (history inside.old) worker ≡ false }
+    ensures kept { IsKept inside.new }
+    ensures made { IfOk result (λ made. Proceeds worker made (life inside.old) (life inside.new)) }
+    ensures err { OnErr result (life inside.new ≡ life inside.old) }
+    ensures ends { only_ends (begun.stage (history inside.old) worker) ≡ true → IsOk result }
+{
+    let Some(entry) = asked(inside, worker)? else {
+        return Ok(false);
+    };
+    take(inside, entry)?;
+    Ok(true)
+}
+
+/// A worker that hasn't given the run up makes its next entry, if it has one: all of it takes effect, or nothing changes.
+/// What was begun can always be ended.
+pub fn proceed(inside: &mut Inside, worker: u32) -> Result<bool, WantMemory>
+    requires kept { IsKept inside.old }
+    requires worker { worker < 16 }
+    requires going { begun.is_abandoned (history inside.old) worker ≡ false }
+    ensures kept { IsKept inside.new }
+    ensures made { IfOk result (λ made. Proceeds worker made (life inside.old) (life inside.new)) }
+    ensures err { OnErr result (life inside.new ≡ life inside.old) }
+    ensures ends { only_ends (begun.stage (history inside.old) worker) ≡ true → IsOk result }
+{
+    match workers::stage(&inside.tables.workers, worker) {
+        Stage::Serving(_) => run(inside, worker)?,
+        Stage::Ran(_) => end(inside, worker),
+        _ => return take_asked(inside, worker),
+    }
+    Ok(true)
 }

@@ -24,7 +24,7 @@ advance-requires c =
         follows = follows;
         turn = beginning_turn e kind;
         begun_is = free;
-        call_is = c.call_at.ensures agrees.tables.calls free ∙ beginning_speaks mid.config mid.run mid.limit (history mid) e kind;
+        call_is = c.call_at-call.ensures agrees.tables.calls free ∙ beginning_speaks mid.config mid.run mid.limit (history mid) e kind;
         servant_is = refl;
         state = agrees.state;
       },
@@ -55,7 +55,7 @@ note-requires-clause-halfway c =
             follows = follows;
             turn = beginning_turn e kind;
             begun_is = free;
-            call_is = c.call_at.ensures agrees.tables.calls free ∙ beginning_speaks mid.config mid.run mid.limit (history mid) e kind;
+            call_is = c.call_at-call.ensures agrees.tables.calls free ∙ beginning_speaks mid.config mid.run mid.limit (history mid) e kind;
             servant_is = refl;
             state = agrees.state;
           });
