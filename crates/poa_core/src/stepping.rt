@@ -28,11 +28,10 @@ pub fn step(run: &mut Run, worker: u32) -> Result<StepOut, WantMemory>
     if run.is_abandoned(worker) {
         return Ok(StepOut::Stopped);
     }
-    let Some(entry) = run.next_turn(worker)? else {
+    if !run.proceed(worker)? {
         return Ok(StepOut::Idle {
             over: run.is_over(),
         });
-    };
-    run.turn(entry)?;
+    }
     Ok(StepOut::Did(point_of(run.stage(worker))))
 }

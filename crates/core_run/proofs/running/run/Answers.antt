@@ -1,7 +1,9 @@
-use Rattle.std.proofs.Common.{refl, ◌∙◌}
+use Rattle.std.proofs.Common.{refl, sym, subst, ◌∙◌}
 use Rattle.poa_base.specs.declared.Entry.TheVariants.{Run}
 use Rattle.core_state.proofs.Stated.{answers_state}
 use Rattle.core_run.specs.Agrees.{history, opened_in}
+use Rattle.core_run.specs.Noting.{IsHalfway}
+use Rattle.core_run.specs.Service.{brings}
 use Rattle.core_run.proofs.Keeping.{runs_still, turn_kept}
 use Rattle.core_run.proofs.Ready.{ready_entries}
 use Rattle.core_run.proofs.Served.{run_halfway, servants_kept}
@@ -23,11 +25,13 @@ note_service-requires-clause-halfway c =
     let agrees = c.make_room_in_journal.ensures.kept.agrees in
     let follows = runs_still (Run c.args.worker) old mid c.make_room_in_journal.ensures.life c.requires.follows in
     let at = c.stage-stage.ensures.begun (history mid) follows.legal.0.worker agrees.tables.workers in
-    run_halfway c.args.worker mid agrees c.stage-stage.result at follows c.in_ok-runs.runs _
+    subst (λ d. IsHalfway (history mid) (Run c.args.worker) c.stage-stage.result (brings d c.nothing.result)
+    (record mid { state = record mid.state { servants = c.act.new.servants } })) (sym c.decided_by-decision.ensures)
+    (run_halfway c.args.worker mid agrees c.stage-stage.result at follows c.in_ok-runs.runs _
     (c.in_ok-runs.ensures.servant mid.run mid.limit c.args.worker agrees.runs
     (answers_state mid.config mid.run mid.limit (opened_in mid) (history mid) mid.state agrees.runs agrees.state) at)
     (c.call_served-call.ensures agrees.tables.calls) c.act.new.servants c.in_ok-outcome.outcome c.nothing.result c.in_ok-outcome.ensures.ok
-    c.in_ok-outcome.ensures.outcome c.nothing.ensures
+    c.in_ok-outcome.ensures.outcome c.nothing.ensures)
 
 pub returns-clause-kept : goal.returns-clause-kept
 returns-clause-kept c =
