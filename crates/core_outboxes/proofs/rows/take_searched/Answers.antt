@@ -6,7 +6,7 @@ use Rattle.std.specs.VecDeque.{deque_len}
 use Rattle.std.proofs.lemmas.List.Sorted.{answers_always}
 use Rattle.core_outboxes.proofs.Filing.{some_of}
 use Rattle.core_outboxes.proofs.Rising.{found, missing}
-use Rattle.core_outboxes.proofs.rows.take_row.Goals as goal
+use Rattle.core_outboxes.proofs.rows.take_searched.Goals as goal
 
 pub returns-in_default : goal.returns-in_default
 returns-in_default c =
