@@ -1,8 +1,8 @@
 -- The first number that is given something.
-use Rattle.std.specs.Prelude.{◌≡◌, ℕ, zero, suc, ◌<◌, ◌≤◌, Bool, true, false, nat_lt, if◌then◌else◌, Option, Some, None, ◌⊎◌, refl}
+use Rattle.std.specs.Prelude.{◌≡◌, ℕ, zero, suc, ◌<◌, Bool, true, nat_lt, Option, Some, None, ◌⊎◌, refl}
 use Rattle.std.specs.Option.{option_or}
 use Rattle.std.proofs.Common.{inl, inr, sym, ap, ap₂, ◌∙◌, arith}
-use Rattle.std.proofs.lemmas.Bool.{cond_both, cases_eq, cases_lt, cases_order, ltb-true, ltb-false}
+use Rattle.std.proofs.lemmas.Bool.{cond_both, cases_eq, ltb-true, ltb-false}
 use Rattle.history_standing.specs.Searches.{first_given}
 use Rattle.core_arrivals.specs.Firsts.{IsFirst, earlier}
 

@@ -1,5 +1,5 @@
 -- A number taken away from numbers that ascend.
-use Rattle.std.specs.Prelude.{slice_index_or, Result, Ok, Err, ◌≡◌, ℕ, zero, suc, ◌<◌, ◌≤◌, true, false, not, ◌==◌, nat_lt, cond, List, [], ◌∷◌, length, Option, Some, None, refl}
+use Rattle.std.specs.Prelude.{slice_index_or, Result, Ok, Err, ◌≡◌, ℕ, zero, suc, ◌<◌, ◌≤◌, true, false, not, ◌==◌, nat_lt, cond, List, [], ◌∷◌, drop, length, Option, Some, None, refl}
 use Rattle.std.specs.List.{remove}
 use Rattle.std.specs.Option.{OnSome, is_some}
 use Rattle.std.specs.Result.{OnOk, OnErr}
@@ -32,6 +32,11 @@ one_taken r (x ∷ xs) (suc i) up low same =
     at i [] low = absurd (omega (arith, low))
     at zero (x ∷ xs) low = inl refl
     at (suc i) (x ∷ xs) low = inr (at i xs (omega (arith, low)))
+
+-- where it is the first, the rest is left
+pub first_taken : (r : ℕ) (xs : List ℕ) → Ascends xs → 0 < length xs → slice_index_or xs 0 r ≡ r → drop 1 xs ≡ without r xs
+first_taken r [] up some same = absurd (omega (arith, some))
+first_taken r (x ∷ xs) up some same = sym (one_taken r (x ∷ xs) zero up some same)
 
 -- where the search found it, it stands there alone; else it isn't there
 pub found_taken : (xs : List ℕ) (r i : ℕ) → Ascends xs → IsBinarySearchResult (λ y. nat_cmp y r) xs (Ok i) → remove xs i ≡ without r xs

@@ -59,11 +59,27 @@ pub fn insert_if(is: bool, numbers: &mut VecDeque<u64>, number: u64)
     }
 }
 
-/// Takes a number away from numbers that ascend.
-pub fn remove(numbers: &mut VecDeque<u64>, number: u64)
+/// Takes away a number that may stand anywhere. It is a function of its own, so that taking the first gets nothing ready
+/// for it.
+#[inline(never)]
+fn remove_searched(numbers: &mut VecDeque<u64>, number: u64)
     ensures { Ascends numbers.old.items → numbers.new.items ≡ without number numbers.old.items }
 {
     if let Ok(place) = numbers.binary_search(&number) {
         let _taken = numbers.remove(place);
+    }
+}
+
+/// Takes a number away from numbers that ascend. Nearly always it is the first.
+pub fn remove(numbers: &mut VecDeque<u64>, number: u64)
+    ensures { Ascends numbers.old.items → numbers.new.items ≡ without number numbers.old.items }
+{
+    let Some(first) = numbers.front() else {
+        return;
+    };
+    if *first == number {
+        let _first = numbers.pop_front();
+    } else {
+        remove_searched(numbers, number);
     }
 }

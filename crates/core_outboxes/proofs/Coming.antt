@@ -1,7 +1,6 @@
 -- An entry that comes to the desk.
-use Rattle.std.proofs.Common.{◌≡◌, ℕ, not, List, [], ◌∷◌, ◌++◌, map, filter, IfSome, Option, refl, sym, ap, subst, ◌∙◌}
+use Rattle.std.proofs.Common.{◌≡◌, ℕ, not, List, [], ◌∷◌, ◌++◌, map, filter, Option, refl, sym, ap, subst, ◌∙◌}
 use Rattle.poa_base.specs.declared.Config.{Config}
-use Rattle.poa_base.specs.declared.Reply.{Reply}
 use Rattle.poa_base.specs.declared.Verdict.{Verdict}
 use Rattle.poa_base.specs.declared.Entry.{Entry}
 use Rattle.poa_base.specs.declared.Entry.TheVariants.{Entered, Arrive, Filled, Left, Collect, Admit, Tried, Incarnated, Run, Done, TakeOut, Etherealized, Abandon}
@@ -20,7 +19,6 @@ use Rattle.core_outboxes.specs.Decided.{AreFiled, target_of}
 use Rattle.core_outboxes.specs.Desk.{is_decided, file, set_wait, waited, waited_by, WaitIs, Comes, AreOwedBefore, AreLeft, IsAlone}
 use Rattle.core_outboxes.proofs.Lists.{filter_agrees}
 use Rattle.core_outboxes.proofs.Answered.{decided_same}
-use Rattle.core_outboxes.proofs.Fixed.{Fixes, fixes}
 use Rattle.core_outboxes.proofs.DeskAfter.{rows_alone, rows_ascend, owed_before, each_owed, owed_after, filed_then}
 
 map_same : {A : Type 0} (xs : List A) → map (λ x. x) xs ≡ xs
@@ -45,20 +43,19 @@ waited_is c run past (Etherealized w x y) wait is os = refl
 waited_is c run past (Abandon w) wait is os = refl
 
 module _ (c : Config) (e : Entry) (standing : Standing) (decision : Option Decision) (wait : Option Wait) (ordered : Option Ordered) (os : List Owing)
-    (target : Option ℕ) (reply : Reply) (target_is : target ≡ target_of decision) (reply_is : IfSome decision (λ it. reply ≡ it.reply))
     (k : Comes c e standing decision wait ordered os) where
-  fixed : Fixes c k.run k.opened k.past e target reply
-  fixed = fixes c k.run k.opened k.past e decision target reply target_is reply_is k.decides
+  abbrev target : Option ℕ
+  target = target_of decision
 
   rows : map (waited_by e wait) os ≡ map (waited c k.run k.past e) os
   rows = waited_is c k.run k.past e wait k.waits os
 
   pub alone_then : IsAlone target (map (waited_by e wait) os)
-  alone_then = subst (IsAlone target) (sym rows) (rows_alone c k.run k.limit k.opened k.past e k.manned k.legal target reply fixed os k.owed)
+  alone_then = subst (IsAlone target) (sym rows) (rows_alone c k.run k.limit k.opened k.past e k.manned k.legal decision k.decides os k.owed)
 
   pub ascend_then : Ascends (arrivals_of (map (waited_by e wait) os))
   ascend_then =
-      subst (λ rs. Ascends (arrivals_of rs)) (sym rows) (rows_ascend c k.run k.limit k.opened k.past e k.manned k.legal target reply fixed os k.owed)
+      subst (λ rs. Ascends (arrivals_of rs)) (sym rows) (rows_ascend c k.run k.limit k.opened k.past e k.manned k.legal decision k.decides os k.owed)
 
   -- the rows that the desk keeps and those that it files are those of the history
   keeps : filter (λ o. not (is_decided c standing target ordered o)) (map (waited_by e wait) os)
@@ -80,22 +77,22 @@ module _ (c : Config) (e : Entry) (standing : Standing) (decision : Option Decis
   before_then new is =
       subst (AreOwedBefore c k.run k.past e) (sym (is ∙ keeps))
       (record {
-        which = owed_before c k.run k.limit k.opened k.past e k.manned k.legal target reply fixed os k.owed;
-        each = each_owed c k.run k.limit k.opened k.past e k.manned k.legal target reply fixed os k.owed;
+        which = owed_before c k.run k.limit k.opened k.past e k.manned k.legal decision k.decides os k.owed;
+        each = each_owed c k.run k.limit k.opened k.past e k.manned k.legal decision k.decides os k.owed;
       })
 
   pub owed_then : (new : List Owing) → new ≡ filter (λ o. not (is_decided c standing target ordered o)) (map (waited_by e wait) os)
       → arrivals (e ∷ k.past) ≡ arrivals k.past → AreOwed c k.run (e ∷ k.past) new
   owed_then new is same =
       subst (AreOwed c k.run (e ∷ k.past)) (sym (is ∙ keeps))
-      (owed_after c k.run k.limit k.opened k.past e k.manned k.legal target reply fixed os k.owed same)
+      (owed_after c k.run k.limit k.opened k.past e k.manned k.legal decision k.decides os k.owed same)
 
   pub filed_after_all : (fs new : List FiledRow)
-      → new ≡ fs ++ map (file target reply) (filter (is_decided c standing target ordered) (map (waited_by e wait) os)) → AreLeft c k.run k.opened k.past e fs
+      → new ≡ fs ++ map (file decision) (filter (is_decided c standing target ordered) (map (waited_by e wait) os)) → AreLeft c k.run k.opened k.past e fs
       → AreFiled c k.run k.opened (e ∷ k.past) new
   filed_after_all fs new is left =
-      subst (AreFiled c k.run k.opened (e ∷ k.past)) (sym (is ∙ ap (λ rs. fs ++ map (file target reply) rs) files))
-      (filed_then c k.run k.limit k.opened k.past e k.manned k.legal target reply fixed os k.owed fs left.which left.each)
+      subst (AreFiled c k.run k.opened (e ∷ k.past)) (sym (is ∙ ap (λ rs. fs ++ map (file decision) rs) files))
+      (filed_then c k.run k.limit k.opened k.past e k.manned k.legal decision k.decides os k.owed fs left.which left.each)
 
 -- no other entry gives a row something to wait for
 pub waits_not : (e : Entry) (wait : Option Wait) (os : List Owing) → ((w r : ℕ) (v : Verdict) → e ≡ Admit w r v → ⊥) → os ≡ map (waited_by e wait) os

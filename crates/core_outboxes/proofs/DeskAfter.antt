@@ -5,7 +5,6 @@ use Rattle.std.proofs.lemmas.List.{map-append, append-nil}
 use Rattle.std.proofs.lemmas.List.Elements.{filter-append}
 use Rattle.poa_base.specs.declared.Config.{Config}
 use Rattle.poa_base.specs.declared.Call.{Call}
-use Rattle.poa_base.specs.declared.Reply.{Reply}
 use Rattle.poa_base.specs.declared.Entry.{Entry}
 use Rattle.poa_base.specs.declared.Entry.TheVariants.{Entered, Arrive, Filled, Left, Collect, Admit, Tried, Incarnated, Run, Done, TakeOut, Etherealized, Abandon}
 use Rattle.poa_base.specs.declared.Attempt.TheVariants.{Yes, No, Raised, Dying}
@@ -21,16 +20,16 @@ use Rattle.poa_history.specs.States.{Stored}
 use Rattle.poa_history.proofs.TurnTells.{trial_is}
 use Rattle.history_standing.specs.Trees.{In}
 use Rattle.history_standing.proofs.Members.{in_kept, image_in}
+use Rattle.core_outboxes.specs.declared.decision.Decision.{Decision}
 use Rattle.core_outboxes.specs.declared.filed.Filed.{Filed as FiledRow}
 use Rattle.core_outboxes.specs.declared.owing.Owing.{Owing}
 use Rattle.poa_history.specs.Numbers.{below, Ascends}
 use Rattle.core_outboxes.specs.Waits.{wait_of, wait_in, ordered_by}
 use Rattle.core_outboxes.specs.Owed.{is_owed, AreOwed, Owes, IsCurrent, arrivals_of}
 use Rattle.poa_history.specs.Heads.{head_of}
-use Rattle.core_outboxes.specs.Decided.{answered, AreFiled, IsFiled}
+use Rattle.core_outboxes.specs.Decided.{answered, AreFiled, Decides, IsFiled, target_of}
 use Rattle.core_outboxes.specs.Desk.{is_decided, file, waited, IsAlone}
 use Rattle.poa_history.proofs.Numbers.{in_below, ascending}
-use Rattle.core_outboxes.proofs.Fixed.{Fixes}
 use Rattle.core_outboxes.proofs.Deciding.{AreRows, owed_which}
 use Rattle.core_outboxes.proofs.FiledAfter.{row_stays, filed_after, each_filed}
 use Rattle.core_outboxes.proofs.RowsNext.{TriesNone, rows_next}
@@ -103,9 +102,9 @@ collected_before c run limit (Etherealized w x y) past r legal is = collected_de
 collected_before c run limit (Abandon w) past r legal is = collected_decided c run limit past r legal.1 is
 
 module _ (c : Config) (run limit : ℕ) (opened : Stored) (past : List Entry) (e : Entry) (manned : IsManned c run past) (legal : IsLegal c run limit (e ∷ past))
-    (target : Option ℕ) (reply : Reply) (decides : Fixes c run opened past e target reply) (os : List Owing) (owed : AreOwed c run past os) where
+    (decision : Option Decision) (decides : Decides c run opened past e decision) (os : List Owing) (owed : AreOwed c run past os) where
   abbrev now : Owing → Bool
-  now o = is_decided c (standing c run (e ∷ past)) target (ordered_by c past e) o
+  now o = is_decided c (standing c run (e ∷ past)) (target_of decision) (ordered_by c past e) o
 
   rows_arrived : (o : Owing) → In o os → o.arrival < arrivals past
   rows_arrived o there =
@@ -115,9 +114,9 @@ module _ (c : Config) (run limit : ℕ) (opened : Stored) (past : List Entry) (e
   pub rows_after : AreRows c run past e (ordered_by c past e) (map (waited c run past e) os)
   rows_after = rows_next c run past e os (tries_none c run limit past e manned legal) rows_arrived owed
 
-  pub rows_alone : IsAlone target (map (waited c run past e) os)
+  pub rows_alone : IsAlone (target_of decision) (map (waited c run past e) os)
   rows_alone =
-      alone_rows target (map (waited c run past e) os)
+      alone_rows (target_of decision) (map (waited c run past e) os)
       (subst Distinct (sym rows_after.which) (distinct_kept (is_owed c run past) (below (arrivals past)) (distinct_below (arrivals past))))
 
   pub rows_ascend : Ascends (arrivals_of (map (waited c run past e) os))
@@ -125,10 +124,10 @@ module _ (c : Config) (run limit : ℕ) (opened : Stored) (past : List Entry) (e
 
   -- those of the calls that had arrived that are owed a reply still
   pub owed_before : map (λ o. o.arrival) (filter (λ o. not (now o)) (map (waited c run past e) os)) ≡ filter (is_owed c run (e ∷ past)) (below (arrivals past))
-  owed_before = owed_which c run past e (ordered_by c past e) (map (waited c run past e) os) rows_after target decides.target_is
+  owed_before = owed_which c run past e (ordered_by c past e) (map (waited c run past e) os) rows_after (target_of decision) decides.target_is
 
   pub each_owed : (o : Owing) → In o (filter (λ o. not (now o)) (map (waited c run past e) os)) → Owes c run (e ∷ past) o
-  each_owed = row_stays c run opened past e (ordered_by c past e) (map (waited c run past e) os) rows_after target reply decides
+  each_owed = row_stays c run opened past e (ordered_by c past e) (map (waited c run past e) os) rows_after decision decides
 
   -- where no call arrives, these are all
   pub owed_after : arrivals (e ∷ past) ≡ arrivals past → AreOwed c run (e ∷ past) (filter (λ o. not (now o)) (map (waited c run past e) os))
@@ -137,14 +136,14 @@ module _ (c : Config) (run limit : ℕ) (opened : Stored) (past : List Entry) (e
   -- the replies, once those that the entry collects are taken out
   pub filed_then : (fs : List FiledRow) → map (λ f. f.arrival) fs ≡ filter (λ r. not (is_collected (e ∷ past) r)) (answered c run past)
       → ((f : FiledRow) → In f fs → IsFiled c run opened past f)
-      → AreFiled c run opened (e ∷ past) (fs ++ map (file target reply) (filter now (map (waited c run past e) os)))
+      → AreFiled c run opened (e ∷ past) (fs ++ map (file decision) (filter now (map (waited c run past e) os)))
   filed_then fs which each =
       record {
-        which = filed_after c run opened past e (ordered_by c past e) (map (waited c run past e) os) rows_after target reply decides
+        which = filed_after c run opened past e (ordered_by c past e) (map (waited c run past e) os) rows_after decision decides
             (λ r. not (is_collected (e ∷ past) r))
             (λ r _ fresh. ap not
             (false_from_ne_true (is_collected (e ∷ past) r) (λ is. true≢false (sym (collected_before c run limit e past r legal is) ∙ fresh)))) fs which;
-        each = each_filed c run opened past e (ordered_by c past e) (map (waited c run past e) os) rows_after target reply decides fs each;
+        each = each_filed c run opened past e (ordered_by c past e) (map (waited c run past e) os) rows_after decision decides fs each;
       }
 
 -- a call that arrives is undecided, and waits for nothing

@@ -3,9 +3,6 @@ use Rattle.std.proofs.Common.{◌≡◌, ℕ, ◌<◌, Bool, true, false, not, �
 use Rattle.std.proofs.lemmas.List.{map-append}
 use Rattle.std.proofs.lemmas.List.Elements.{filter-append}
 use Rattle.poa_base.specs.declared.Config.{Config}
-use Rattle.poa_base.specs.declared.Reply.{Reply}
-use Rattle.poa_base.specs.declared.Reply.TheVariants.{Answer as AnswerReply}
-use Rattle.poa_base.specs.declared.Answer.TheVariants.{Good}
 use Rattle.poa_base.specs.declared.Entry.{Entry}
 use Rattle.history_standing.specs.Arrivals.{arrivals, call_of}
 use Rattle.history_standing.specs.Changes.{standing}
@@ -15,6 +12,7 @@ use Rattle.history_standing.specs.Stages.{is_at}
 use Rattle.poa_history.specs.States.{Stored}
 use Rattle.history_standing.specs.Trees.{In}
 use Rattle.history_standing.proofs.Members.{in_kept, in_image}
+use Rattle.core_outboxes.specs.declared.decision.Decision.{Decision}
 use Rattle.core_outboxes.specs.declared.filed.Filed.{Filed as FiledRow}
 use Rattle.core_outboxes.specs.declared.owing.Owing.{Owing}
 use Rattle.core_outboxes.specs.declared.wait.Wait.{Wait}
@@ -24,10 +22,9 @@ use Rattle.poa_history.specs.Numbers.{below}
 use Rattle.core_outboxes.specs.Waits.{is_overtaking, has_come}
 use Rattle.core_outboxes.specs.Owed.{Owes, IsCurrent}
 use Rattle.poa_history.specs.Heads.{head_of}
-use Rattle.core_outboxes.specs.Decided.{is_answered_by, answered, IsFiled}
+use Rattle.core_outboxes.specs.Decided.{is_answered_by, answered, Decides, IsFiled, reply_to, target_of}
 use Rattle.core_outboxes.specs.Desk.{is_decided, file}
 use Rattle.poa_history.proofs.Numbers.{in_below}
-use Rattle.core_outboxes.proofs.Fixed.{Fixes}
 use Rattle.core_outboxes.proofs.Waiting.{IsOvertaken}
 use Rattle.core_outboxes.proofs.Deciding.{AreRows, row_owed, row_fresh, row_decided, filed_which}
 use Rattle.core_outboxes.proofs.Kept.{replied_decided, reply_kept, reply_fixed}
@@ -42,9 +39,9 @@ all_kept : (p : ℕ → Bool) (xs : List ℕ) → ((x : ℕ) → In x xs → p x
 all_kept p [] all = refl
 all_kept p (x ∷ xs) all = ap₂ (λ b ys. cond b (x ∷ ys) ys) (all x (inl refl)) (all_kept p xs (λ y there. all y (inr there)))
 
-filed_arrivals : (target : Option ℕ) (reply : Reply) (os : List Owing) → map (λ f. f.arrival) (map (file target reply) os) ≡ map (λ o. o.arrival) os
-filed_arrivals target reply [] = refl
-filed_arrivals target reply (o ∷ os) = ap (λ rs. o.arrival ∷ rs) (filed_arrivals target reply os)
+filed_arrivals : (decision : Option Decision) (os : List Owing) → map (λ f. f.arrival) (map (file decision) os) ≡ map (λ o. o.arrival) os
+filed_arrivals decision [] = refl
+filed_arrivals decision (o ∷ os) = ap (λ rs. o.arrival ∷ rs) (filed_arrivals decision os)
 
 in_append : {A : Type 0} (x : A) (xs ys : List A) → In x (xs ++ ys) → In x xs ⊎ In x ys
 in_append x [] ys there = inr there
@@ -53,7 +50,10 @@ in_append x (z ∷ xs) ys (inr more) = elim (in_append x xs ys more) [ inl a ↦
 
 module _ (c : Config) (run : ℕ) (opened : Stored) (past : List Entry) (e : Entry) (ordered : Option Ordered) (os : List Owing)
     (rows : AreRows c run past e ordered os)
-    (target : Option ℕ) (reply : Reply) (decides : Fixes c run opened past e target reply) where
+    (decision : Option Decision) (decides : Decides c run opened past e decision) where
+  abbrev target : Option ℕ
+  target = target_of decision
+
   -- a row that isn't decided is owed a reply still
   pub row_stays : (o : Owing) → In o (filter (λ o. not (is_decided c (standing c run (e ∷ past)) target ordered o)) os) → Owes c run (e ∷ past) o
   row_stays o there =
@@ -85,7 +85,7 @@ module _ (c : Config) (run : ℕ) (opened : Stored) (past : List Entry) (e : Ent
 
   -- what is filed of a row is the reply of its call
   pub row_filed : (o : Owing) → In o (filter (is_decided c (standing c run (e ∷ past)) target ordered) os)
-      → IsFiled c run opened (e ∷ past) (file target reply o)
+      → IsFiled c run opened (e ∷ past) (file decision o)
   row_filed o there =
       let kept = in_kept (is_decided c (standing c run (e ∷ past)) target ordered) o os there in
       let less = (row_owed c run past e ordered os rows o kept.0).0 in
@@ -95,7 +95,7 @@ module _ (c : Config) (run : ℕ) (opened : Stored) (past : List Entry) (e : Ent
         conn = conn_kept e past o.arrival less ∙ rows.conns o kept.0;
         head = ap head_of (call_kept e past o.arrival less) ∙ rows.heads o kept.0;
         reply = reply_fixed c run opened past e o.arrival fresh now ∙ decides.reply_is o.arrival less fresh now
-            ∙ ap (λ n. Some (cond (is_at o.arrival target) reply (AnswerReply n Good))) (rows.numbers o kept.0);
+            ∙ ap (λ n. Some (reply_to decision o.arrival n)) (rows.numbers o kept.0);
       }
 
   -- what was filed before is so still
@@ -111,14 +111,14 @@ module _ (c : Config) (run : ℕ) (opened : Stored) (past : List Entry) (e : Ent
   -- the replies in their order, but for those that a test says were collected
   pub filed_after : (stands : ℕ → Bool) → ((r : ℕ) → r < arrivals past → decided c run past r ≡ false → stands r ≡ true) → (fs : List FiledRow)
       → map (λ f. f.arrival) fs ≡ filter stands (answered c run past)
-      → map (λ f. f.arrival) (fs ++ map (file target reply) (filter (is_decided c (standing c run (e ∷ past)) target ordered) os)) ≡ filter stands
+      → map (λ f. f.arrival) (fs ++ map (file decision) (filter (is_decided c (standing c run (e ∷ past)) target ordered) os)) ≡ filter stands
       (answered c run (e ∷ past))
   filed_after stands fresh_stand fs which =
       let now = is_decided c (standing c run (e ∷ past)) target ordered in
       let news = filter (is_answered_by c run e past) (below (arrivals past)) in
-      map-append (λ f. f.arrival) fs (map (file target reply) (filter now os))
+      map-append (λ f. f.arrival) fs (map (file decision) (filter now os))
       ∙ ap₂ (λ xs ys. xs ++ ys) which
-      (filed_arrivals target reply (filter now os) ∙ filed_which c run past e ordered os rows target decides.target_is
+      (filed_arrivals decision (filter now os) ∙ filed_which c run past e ordered os rows target decides.target_is
       ∙ sym (all_kept stands news (λ r there. (let its = in_kept (is_answered_by c run e past) r (below (arrivals past)) there in
       fresh_stand r (in_below r (arrivals past) its.0) (third (asks (call_of past r)) (decided c run (e ∷ past) r) (decided c run past r) its.1)))))
       ∙ sym (filter-append stands (answered c run past) news)
@@ -130,11 +130,11 @@ module _ (c : Config) (run : ℕ) (opened : Stored) (past : List Entry) (e : Ent
       third false b d is = absurd (let x : false ≡ true = is in cc)
 
   pub each_filed : (fs : List FiledRow) → ((f : FiledRow) → In f fs → IsFiled c run opened past f)
-      → (f : FiledRow) → In f (fs ++ map (file target reply) (filter (is_decided c (standing c run (e ∷ past)) target ordered) os))
+      → (f : FiledRow) → In f (fs ++ map (file decision) (filter (is_decided c (standing c run (e ∷ past)) target ordered) os))
       → IsFiled c run opened (e ∷ past) f
   each_filed fs each f there =
-      elim (in_append f fs (map (file target reply) (filter (is_decided c (standing c run (e ∷ past)) target ordered) os)) there) [
+      elim (in_append f fs (map (file decision) (filter (is_decided c (standing c run (e ∷ past)) target ordered) os)) there) [
         | inl old ↦ stays_filed f (each f old)
-        | inr new ↦ (let from = in_image (file target reply) f (filter (is_decided c (standing c run (e ∷ past)) target ordered) os) new in
+        | inr new ↦ (let from = in_image (file decision) f (filter (is_decided c (standing c run (e ∷ past)) target ordered) os) new in
             subst (IsFiled c run opened (e ∷ past)) (sym from.2) (row_filed from.0 from.1))
       ]

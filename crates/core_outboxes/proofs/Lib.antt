@@ -7,7 +7,6 @@ pub mod InPlace
 pub mod Waiting
 pub mod Deciding
 pub mod Kept
-pub mod Fixed
 pub mod FiledAfter
 pub mod RowsNext
 pub mod Given

@@ -12,6 +12,7 @@ use Rattle.core_outboxes.specs.declared.wait.Ordered.{Ordered}
 use Rattle.core_outboxes.specs.Waits.{has_come}
 use Rattle.core_outboxes.specs.Owed.{has_wait}
 use Rattle.core_outboxes.specs.Desk.{is_decided, set_wait}
+use Rattle.core_outboxes.proofs.Lists.{filter_agrees}
 
 first : (a b : Bool) → (a || b) ≡ false → a ≡ false
 first true b is = is
@@ -45,7 +46,7 @@ none_in o (p ∷ ps) none (inl same) = ap has_wait same ∙ first (has_wait p) (
 none_in o (p ∷ ps) none (inr more) = none_in o ps (second (has_wait p) (list_any has_wait ps) none) more
 
 -- where no row waits, an entry decides its target alone
-pub target_alone : (c : Config) (s : Standing) (target : Option ℕ) (ordered : Option Ordered) (os : List Owing) → list_any has_wait os ≡ false
+target_alone : (c : Config) (s : Standing) (target : Option ℕ) (ordered : Option Ordered) (os : List Owing) → list_any has_wait os ≡ false
     → (o : Owing) → In o os → is_at o.arrival target ≡ is_decided c s target ordered o
 target_alone c s target ordered os none o there = by_wait o.wait refl
   where
@@ -58,6 +59,29 @@ target_alone c s target ordered os none o there = by_wait o.wait refl
         sym (ap (λ w. is_at o.arrival target || (elim w [ Some x ↦ has_come c s ordered o.arrival x | None ↦ false ])) at ∙ or_false (is_at o.arrival target))
     by_wait (Some w) at = absurd (let e : true ≡ false = sym (ap is_some at) ∙ waits_none in cc)
 
+pub decided_alone : (c : Config) (s : Standing) (target : Option ℕ) (ordered : Option Ordered) (os : List Owing) → list_any has_wait os ≡ false
+    → (filter (λ o. is_at o.arrival target) os ≡ filter (is_decided c s target ordered) os)
+    × (filter (λ o. not (is_at o.arrival target)) os ≡ filter (λ o. not (is_decided c s target ordered o)) os)
+decided_alone c s target ordered os none =
+    let alone = target_alone c s target ordered os none in (
+      filter_agrees (λ o. is_at o.arrival target) (is_decided c s target ordered) os alone,
+      filter_agrees (λ o. not (is_at o.arrival target)) (λ o. not (is_decided c s target ordered o)) os (λ o there. ap not (alone o there)),
+    )
+
+-- where nothing is the target, nothing is filed
+all_but_none : (os : List Owing) → (filter (λ o. is_at o.arrival None) os ≡ []) × (filter (λ o. not (is_at o.arrival None)) os ≡ os)
+all_but_none [] = (refl, refl)
+all_but_none (o ∷ os) = (let rest = all_but_none os in (rest.0, ap (λ xs. o ∷ xs) rest.1))
+
+-- so where it decides nothing, all stay
+pub all_stay : (c : Config) (s : Standing) (target : Option ℕ) (ordered : Option Ordered) (os : List Owing) → list_any has_wait os ≡ false → target ≡ None
+    → (filter (is_decided c s target ordered) os ≡ []) × (os ≡ filter (λ o. not (is_decided c s target ordered o)) os)
+all_stay c s target ordered os none no_target =
+    let alone = decided_alone c s target ordered os none in (
+      sym alone.0 ∙ ap (λ t. filter (λ o. is_at o.arrival t) os) no_target ∙ (all_but_none os).0,
+      sym (all_but_none os).1 ∙ ap (λ t. filter (λ o. not (is_at o.arrival t)) os) (sym no_target) ∙ alone.1,
+    )
+
 -- of rows that don't wait none does that is kept
 pub kept_none : (p : Owing → Bool) (os : List Owing) → list_any has_wait os ≡ false → list_any has_wait (filter p os) ≡ false
 kept_none p [] none = refl
@@ -69,8 +93,3 @@ kept_none p (o ∷ os) none =
 pub none_given : (wait : Option Wait) → is_some wait ≡ false → wait ≡ None
 none_given None none = refl
 none_given (Some w) none = absurd (let e : true ≡ false = none in cc)
-
--- where nothing is the target, nothing is filed
-pub all_but_none : (os : List Owing) → (filter (λ o. is_at o.arrival None) os ≡ []) × (filter (λ o. not (is_at o.arrival None)) os ≡ os)
-all_but_none [] = (refl, refl)
-all_but_none (o ∷ os) = (let rest = all_but_none os in (rest.0, ap (λ xs. o ∷ xs) rest.1))

@@ -1,5 +1,5 @@
 -- Rows in the order of their arriving, and the one row of a target among them.
-use Rattle.std.proofs.Common.{◌≡◌, ℕ, ◌<◌, ◌≤◌, zero, suc, Bool, true, false, not, List, [], ◌∷◌, filter, length, get_or, cond, nat_lt, Some, Ok, Err, inl, inr, refl, sym, ap₂, arith}
+use Rattle.std.proofs.Common.{◌≡◌, ℕ, ◌<◌, ◌≤◌, zero, suc, Bool, true, false, not, List, [], ◌∷◌, drop, filter, length, get_or, cond, nat_lt, Some, Ok, Err, inl, inr, refl, sym, ap₂, arith}
 use Rattle.std.specs.List.{remove}
 use Rattle.std.specs.List.Sorted.{IsBinarySearchResult}
 use Rattle.std.specs.Ordering.{nat_cmp}
@@ -66,6 +66,12 @@ module _ (r : ℕ) where
         ap₂ (λ b ys. cond b (o ∷ ys) ys) other rest.0,
         ap₂ (λ b ys. cond (not b) (o ∷ ys) ys) other rest.1,
       )
+
+  -- where the first row is the target's, it is the only one
+  pub first_alone : (os : List Owing) (d : Owing) → Ascends (arrivals_of os) → 0 < length os → (get_or os 0 d).arrival ≡ r
+      → (filter its os ≡ get_or os 0 d ∷ []) × (filter (λ o. not (its o)) os ≡ drop 1 os)
+  first_alone [] d up some same = absurd (omega (arith, some))
+  first_alone (o ∷ os) d up some same = alone_at (o ∷ os) zero d up some same
 
   -- what the search finds is filed, and nothing else
   pub found : (os : List Owing) (i : ℕ) (d : Owing) → Ascends (arrivals_of os) → i < length os → IsBinarySearchResult (λ o. nat_cmp o.arrival r) os (Ok i)

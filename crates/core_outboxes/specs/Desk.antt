@@ -5,9 +5,6 @@ use Rattle.std.specs.List.{list_any, position_or_len}
 use Rattle.poa_base.specs.declared.Config.{Config}
 use Rattle.poa_base.specs.declared.Entry.{Entry}
 use Rattle.poa_base.specs.declared.Entry.TheVariants.{Admit}
-use Rattle.poa_base.specs.declared.Reply.{Reply}
-use Rattle.poa_base.specs.declared.Reply.TheVariants.{Answer as AnswerReply}
-use Rattle.poa_base.specs.declared.Answer.TheVariants.{Good}
 use Rattle.history_standing.specs.Arrivals.{arrivals}
 use Rattle.poa_history.specs.InFlight.{IsManned}
 use Rattle.poa_history.specs.Legal.{IsLegal}
@@ -25,7 +22,7 @@ use Rattle.core_outboxes.specs.declared.wait.Wait.{Wait}
 use Rattle.core_standing.specs.Answers.{AnswersAs}
 use Rattle.poa_history.specs.Numbers.{below}
 use Rattle.core_outboxes.specs.Owed.{is_owed, Owes, AreOwed}
-use Rattle.core_outboxes.specs.Decided.{answered, IsFiled, Decides}
+use Rattle.core_outboxes.specs.Decided.{answered, IsFiled, Decides, reply_to}
 use Rattle.core_outboxes.specs.Outboxes.{HasRoomAt, replies_at}
 use Rattle.core_outboxes.specs.Waits.{wait_begun, has_come, ordered_by}
 
@@ -37,15 +34,9 @@ set_wait r wait o = if o.arrival == r then record o { wait = wait } else o
 abbrev pub is_decided : Config → Standing → Option ℕ → Option Ordered → Owing → Bool
 is_decided c s target ordered o = is_at o.arrival target || (elim o.wait [ Some wait ↦ has_come c s ordered o.arrival wait | None ↦ false ])
 
--- the reply of the target; to a command that waited it is `ok`
-abbrev pub file : Option ℕ → Reply → Owing → Filed
-file target reply o =
-    record {
-      arrival = o.arrival;
-      conn = o.conn;
-      head = o.head;
-      reply = if is_at o.arrival target then reply else AnswerReply o.number Good;
-    }
+-- the reply of a call that an entry decides: that of the decision where it is the call's, and `ok` to a command that waited
+abbrev pub file : Option Decision → Owing → Filed
+file decision o = record { arrival = o.arrival; conn = o.conn; head = o.head; reply = reply_to decision o.arrival o.number }
 
 -- the target stands in one row at most
 abbrev pub IsAlone : Option ℕ → List Owing → Type 0

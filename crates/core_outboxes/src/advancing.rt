@@ -1,8 +1,8 @@
 //! The desk after an entry.
-ghost use Rattle.std.specs.Prelude.{◌≡◌, ◌∷◌, ℕ, List, map, IfSome};
+ghost use Rattle.std.specs.Prelude.{◌≡◌, ◌∷◌, ℕ, List, map};
 ghost use Rattle.history_standing.specs.Arrivals.{arrivals};
 ghost use Rattle.core_standing.specs.Seen.{seen};
-ghost use Rattle.core_outboxes.specs.Decided.{AreFiled, target_of};
+ghost use Rattle.core_outboxes.specs.Decided.{AreFiled};
 ghost use Rattle.core_outboxes.specs.Owed.{AreOwed};
 ghost use Rattle.core_outboxes.specs.Desk as desks;
 ghost use Rattle.core_outboxes.specs.Desk.{AreLeft, AreOwedBefore, Comes, Files, HasFiled, HasRoomForOne};
@@ -12,7 +12,7 @@ use crate::decision::Decision;
 use crate::desk::Desk;
 use crate::wait::{Ordered, Wait};
 use core_standing::Standing;
-use poa_base::{Config, Entry, Reply};
+use poa_base::{Config, Entry};
 
 /// An arrival that is admitted gets what it waits for from now on.
 fn set_wait(entry: &Entry, wait: Option<Wait>, desk: &mut Desk)
@@ -24,17 +24,6 @@ fn set_wait(entry: &Entry, wait: Option<Wait>, desk: &mut Desk)
 {
     if let Entry::Admit { arrival, .. } = entry {
         desk.set_wait(*arrival, wait);
-    }
-}
-
-/// The arrival that is decided, and its reply; where none is, a reply that no row gets.
-fn parted(decision: Option<Decision>) -> (Option<u64>, Reply)
-    ensures target { result.0 ≡ target_of decision }
-    ensures reply { IfSome decision (λ it. result.1 ≡ it.reply) }
-{
-    match decision {
-        Some(it) => (Some(it.arrival), it.reply),
-        None => (None, Reply::Addressing),
     }
 }
 
@@ -67,6 +56,5 @@ pub fn advance(
     ensures spare { (conn : ℕ) → HasRoomForOne conn desk.old → HasRoomForOne conn desk.new }
 {
     set_wait(entry, wait, desk);
-    let (target, reply) = parted(decision);
-    desk.decide(config, standing, target, reply, ordered);
+    desk.decide(config, standing, decision, ordered);
 }

@@ -4,14 +4,15 @@ ghost use Rattle.std.specs.List.{list_any};
 ghost use Rattle.core_outboxes.specs.Outboxes.{awaited_at};
 ghost use Rattle.core_outboxes.specs.Owed.{has_wait};
 
+use crate::decision::Decision;
 use crate::filed::Filed;
 use crate::fresh::Fresh;
 use crate::outboxes::Outboxes;
 use crate::owing::Owing;
-use crate::rows::{any_waits, file_decided, file_target, put_waits};
+use crate::rows::{any_waits, file_decided, file_decision, put_waits};
 use crate::wait::{Ordered, Wait};
 use core_standing::Standing;
-use poa_base::{Config, Reply, WantMemory};
+use poa_base::{Config, WantMemory};
 use std::alloc::Global;
 use std::collections::VecDeque;
 
@@ -34,6 +35,7 @@ impl Desk {
     ghost use Rattle.std.specs.Prelude.{◌≤◌, ◌+◌, ◌++◌, ◌∷◌, List, not, [], find, map, IsOk, OnOk};
     ghost use Rattle.core_standing.specs.Seen.{seen};
     ghost use Rattle.core_outboxes.specs.declared.filed.Filed.{Filed as FiledRow};
+    ghost use Rattle.core_outboxes.specs.Decided.{target_of};
     ghost use Rattle.core_outboxes.specs.Desk as desks;
     ghost use Rattle.core_outboxes.specs.Desk.{Files, IsAlone, HasRoomForOne};
     ghost use Rattle.poa_history.specs.Numbers.{Ascends};
@@ -94,42 +96,41 @@ impl Desk {
         }
     }
 
-    /// An entry decides the target, with this reply, and each command for which what it waits for has come.
-    /// Takes no memory.
+    /// An entry decides this call, if one, and each command for which what it waits for has come. Takes no memory.
     pub fn decide(
         &mut self,
         config: &Config,
         standing: &Standing,
-        target: Option<u64>,
-        reply: Reply,
+        decision: Option<Decision>,
         ordered: Option<Ordered>,
     )
-        requires alone { IsAlone target self.old.owing.items }
+        requires alone { IsAlone (target_of decision) self.old.owing.items }
         requires ascends { Ascends (arrivals_of self.old.owing.items) }
         ensures owing { self.new.owing.items ≡ filter
-            (λ o. not (desks.is_decided config.now (seen standing.now) target ordered o))
+            (λ o. not (desks.is_decided config.now (seen standing.now) (target_of decision)
+            ordered o))
             self.old.owing.items }
         ensures files { (fs : List FiledRow) → Files self.old fs
-            → Files self.new (fs ++ map (desks.file target reply)
-            (filter (desks.is_decided config.now (seen standing.now) target ordered)
+            → Files self.new (fs ++ map (desks.file decision)
+            (filter (desks.is_decided config.now (seen standing.now) (target_of decision) ordered)
             self.old.owing.items)) }
         ensures due { self.new.due ≡ self.old.due }
         ensures spare { (conn : ℕ) → HasRoomForOne conn self.old → HasRoomForOne conn self.new }
     {
         self.outboxes.fresh = Fresh::none();
-        if !self.waits {
-            return file_target(target, reply, &mut self.owing, &mut self.outboxes);
+        if self.waits {
+            file_decided(
+                config,
+                standing,
+                decision,
+                ordered,
+                &mut self.owing,
+                &mut self.outboxes,
+            );
+            self.waits = any_waits(&self.owing);
+        } else if let Some(decision) = decision {
+            file_decision(decision, &mut self.owing, &mut self.outboxes);
         }
-        file_decided(
-            config,
-            standing,
-            target,
-            reply,
-            ordered,
-            &mut self.owing,
-            &mut self.outboxes,
-        );
-        self.waits = any_waits(&self.owing);
     }
 
     /// The first reply of a connection is given out. Takes no memory.

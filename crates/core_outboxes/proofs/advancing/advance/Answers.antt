@@ -1,5 +1,6 @@
 use Rattle.std.proofs.Common.{◌∙◌, ◌++◌, not, filter, map, sym, ap, subst}
 use Rattle.core_standing.specs.Seen.{seen}
+use Rattle.core_outboxes.specs.Decided.{target_of}
 use Rattle.core_outboxes.specs.Desk as desks
 use Rattle.poa_history.specs.Numbers.{Ascends}
 use Rattle.core_outboxes.specs.Owed.{arrivals_of}
@@ -8,44 +9,38 @@ use Rattle.core_outboxes.proofs.advancing.advance.Goals as goal
 
 pub decide-requires-clause-alone : goal.decide-requires-clause-alone
 decide-requires-clause-alone c =
-    subst (desks.IsAlone c.parted-target.result.0) (sym c.set_wait.ensures.owing)
+    subst (desks.IsAlone (target_of c.args.decision)) (sym c.set_wait.ensures.owing)
     (alone_then c.args.config.now c.args.entry.now
-    (seen c.args.standing.now) c.args.decision c.args.wait c.args.ordered c.args.desk.now.owing.items _ _
-    c.parted-target.ensures.target c.parted-target.ensures.reply c.requires.comes)
+    (seen c.args.standing.now) c.args.decision c.args.wait c.args.ordered c.args.desk.now.owing.items c.requires.comes)
 
 pub decide-requires-clause-ascends : goal.decide-requires-clause-ascends
 decide-requires-clause-ascends c =
     subst (λ os. Ascends (arrivals_of os)) (sym c.set_wait.ensures.owing)
     (ascend_then c.args.config.now c.args.entry.now
-    (seen c.args.standing.now) c.args.decision c.args.wait c.args.ordered c.args.desk.now.owing.items _ _
-    c.parted-target.ensures.target c.parted-target.ensures.reply c.requires.comes)
+    (seen c.args.standing.now) c.args.decision c.args.wait c.args.ordered c.args.desk.now.owing.items c.requires.comes)
 
 pub returns-clause-before : goal.returns-clause-before
 returns-clause-before c = λ k.
     before_then c.args.config.now c.args.entry.now
-    (seen c.args.standing.now) c.args.decision c.args.wait c.args.ordered c.args.desk.now.owing.items _ _
-    c.parted-target.ensures.target c.parted-target.ensures.reply k c.decide.new.self.owing.items
-    (c.decide.ensures.owing ∙ ap (filter (λ o. not (desks.is_decided c.args.config.now (seen c.args.standing.now) c.parted-target.result.0 c.args.ordered o)))
+    (seen c.args.standing.now) c.args.decision c.args.wait c.args.ordered c.args.desk.now.owing.items k c.decide.new.self.owing.items
+    (c.decide.ensures.owing ∙ ap (filter (λ o. not (desks.is_decided c.args.config.now (seen c.args.standing.now) (target_of c.args.decision) c.args.ordered o)))
     c.set_wait.ensures.owing)
 
 pub returns-clause-owed : goal.returns-clause-owed
 returns-clause-owed c = λ k same.
     owed_then c.args.config.now c.args.entry.now
-    (seen c.args.standing.now) c.args.decision c.args.wait c.args.ordered c.args.desk.now.owing.items _ _
-    c.parted-target.ensures.target c.parted-target.ensures.reply k c.decide.new.self.owing.items
-    (c.decide.ensures.owing ∙ ap (filter (λ o. not (desks.is_decided c.args.config.now (seen c.args.standing.now) c.parted-target.result.0 c.args.ordered o)))
+    (seen c.args.standing.now) c.args.decision c.args.wait c.args.ordered c.args.desk.now.owing.items k c.decide.new.self.owing.items
+    (c.decide.ensures.owing ∙ ap (filter (λ o. not (desks.is_decided c.args.config.now (seen c.args.standing.now) (target_of c.args.decision) c.args.ordered o)))
     c.set_wait.ensures.owing) same
 
 pub returns-clause-filed : goal.returns-clause-filed
 returns-clause-filed c = λ k left.
-    (let now = desks.is_decided c.args.config.now (seen c.args.standing.now) c.parted-target.result.0 c.args.ordered in
-    let filed = map (desks.file c.parted-target.result.0 c.parted-target.result.1) (filter now c.set_wait.new.desk.owing.items) in
+    (let now = desks.is_decided c.args.config.now (seen c.args.standing.now) (target_of c.args.decision) c.args.ordered in
+    let filed = map (desks.file c.args.decision) (filter now c.set_wait.new.desk.owing.items) in
     record {
       replies = left.replies ++ filed;
       files = c.decide.ensures.files left.replies (c.set_wait.ensures.files left.replies left.files);
       holds = filed_after_all c.args.config.now c.args.entry.now
-          (seen c.args.standing.now) c.args.decision c.args.wait c.args.ordered c.args.desk.now.owing.items _ _
-          c.parted-target.ensures.target c.parted-target.ensures.reply k left.replies
-          (left.replies ++ filed)
-          (ap (λ os. left.replies ++ map (desks.file c.parted-target.result.0 c.parted-target.result.1) (filter now os)) c.set_wait.ensures.owing) left.holds;
+          (seen c.args.standing.now) c.args.decision c.args.wait c.args.ordered c.args.desk.now.owing.items k left.replies (left.replies ++ filed)
+          (ap (λ os. left.replies ++ map (desks.file c.args.decision) (filter now os)) c.set_wait.ensures.owing) left.holds;
     })
