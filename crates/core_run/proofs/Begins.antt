@@ -1,5 +1,5 @@
 -- A request is admitted to be served.
-use Rattle.std.proofs.Common.{◌≡◌, ℕ, false, true, List, ◌∷◌, None, refl, sym}
+use Rattle.std.proofs.Common.{◌≡◌, ℕ, false, true, List, ◌∷◌, None, refl, sym, subst}
 use Rattle.poa_base.specs.declared.Config.{Config}
 use Rattle.poa_base.specs.declared.Entry.{Entry}
 use Rattle.poa_base.specs.declared.Entry.TheVariants.{Entered, Arrive, Filled, Left, Collect, Admit, Tried, Incarnated, Run, Done, TakeOut, Etherealized, Abandon}
@@ -11,19 +11,30 @@ use Rattle.poa_history.specs.Replies.{is_final}
 use Rattle.poa_history.specs.Runs.{IsRun}
 use Rattle.poa_history.specs.States.{Stored}
 use Rattle.poa_history.proofs.TurnTells.{admission_is}
+use Rattle.history_standing.specs.Trees.{In}
+use Rattle.active_map.specs.Tables.{Table}
+use Rattle.core_standing.specs.Kept.{KeepsNoneOver, StandingAgrees}
+use Rattle.core_standing.specs.Seen.{behind, seen}
+use Rattle.core_standing.specs.declared.standing.Standing.{Standing}
 use Rattle.core_settings.specs.Told.{SettingsAgree}
 use Rattle.core_settings.specs.declared.settings.Settings.{Settings}
-use Rattle.core_state.specs.State.{IsNext, call_spoken}
-use Rattle.core_state.specs.declared.coming.Coming.{Coming}
+use Rattle.core_state.specs.State.{StateAgrees, call_spoken}
+use Rattle.core_state.proofs.Stated.{quiet_state}
 use Rattle.held_queue.specs.Frees as frees
 use Rattle.core_outboxes.specs.Comes.{HasOutcome, call_at}
 use Rattle.core_outboxes.specs.Desk.{WaitIs}
 use Rattle.core_outboxes.specs.Fixed.{may_decide}
 use Rattle.core_outboxes.specs.Waits.{ordered_by}
 use Rattle.core_outboxes.proofs.DecidingReply.{never_decides}
+use Rattle.core_run.specs.declared.inside.Inside.{Inside}
+use Rattle.core_run.specs.Agrees.{Agrees, history, opened_in}
+use Rattle.core_run.specs.Kept.{IsKept}
+use Rattle.core_run.specs.Noting.{IsHalfway}
 use Rattle.core_run.specs.ToCome.{is_ending, needs_journal_alone}
 use Rattle.core_run.specs.Service.{begins, nothing}
 use Rattle.core_run.specs.Turning.{IsBrought}
+use Rattle.core_run.proofs.Filed.{filed_as}
+use Rattle.core_run.proofs.Keeping.{left_still}
 use Rattle.core_run.proofs.Turned.{manned_before}
 
 -- what is so of each
@@ -99,3 +110,49 @@ module _ (c : Config) (run limit : ℕ) (past : List Entry) where
 
         free : (e : Entry) → begins e ≡ true → frees.nothing ≡ frees.freed_by c run past e
         free = by_beginning (λ e. frees.nothing ≡ frees.freed_by c run past e) (λ _ _ _. refl) (λ _ _ _. refl) (λ _ _ _. refl)
+
+-- a request is admitted to the activation that serves it
+module _ (w r n : ℕ) (i : Inside) (agrees : Agrees (history i) i) (follows : IsRun i.config i.run i.limit (Admit w r (Serve n) ∷ history i)) where
+  abbrev e : Entry
+  e = Admit w r (Serve n)
+
+  serve_state : (t : Standing) → StandingAgrees i.config i.run (e ∷ history i) (seen t) → t.activations ≡ i.state.standing.activations
+      → StateAgrees i.config i.run (opened_in i) (e ∷ history i) (record i.state { standing = t })
+  serve_state t stands same =
+      (let state = agrees.state in
+      let set = state.set in
+      quiet_state i.config i.run i.limit (opened_in i) (history i) e i.state t i.state.settings follows refl state.held stands
+      (λ a there. state.none_over a (subst (λ (map : Table). In a (behind map.forgotten map.kept)) same there))
+      (record { managed = set.managed; states = set.states; presets = set.presets; endpoints = set.endpoints }))
+
+  pub serve_halfway : (t : Standing) → StandingAgrees i.config i.run (e ∷ history i) (seen t) → t.activations ≡ i.state.standing.activations
+      → IsHalfway (history i) e Free nothing (record i { state = record i.state { standing = t } })
+  serve_halfway t stands same =
+      record {
+        follows = follows;
+        begun_is = beginning_free i.config i.run i.limit (history i) e refl follows.legal.0;
+        state = serve_state t stands same;
+        brought = beginning_brings i.config i.run i.limit (history i) (opened_in i) i.state.settings agrees.state.set e refl follows;
+        tables = agrees.tables;
+        owed = agrees.owed;
+        left = filed_as i.desk (left_still e i refl) agrees.filed;
+      }
+
+-- what is kept stays so where the same is seen to stand
+pub standing_kept : (i : Inside) (t : Standing) → seen t ≡ seen i.state.standing → IsKept i → IsKept (record i { state = record i.state { standing = t } })
+standing_kept i t same kept =
+    (let a = kept.agrees in let s = a.state in record {
+      agrees = record {
+        runs = a.runs;
+        state = record {
+          stands = subst (StandingAgrees i.config i.run (history i)) (sym same) s.stands;
+          none_over = subst (KeepsNoneOver i.config) (sym same) s.none_over;
+          set = s.set;
+          held = s.held;
+        };
+        tables = a.tables;
+        owed = a.owed;
+        filed = a.filed;
+      };
+      space = kept.space;
+    })

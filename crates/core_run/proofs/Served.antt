@@ -80,27 +80,27 @@ pub service_counts_none : (past : List Entry) (t : Tally) → TallyAgrees past t
 service_counts_none past t is =
     by_service (λ e. TallyAgrees (e ∷ past) t)
     (λ _. record {
-        entered = is.entered;
-        leavers = is.leavers;
-        stayers = is.stayers;
-        calls = is.calls;
-        sizes = is.sizes;
-        full = is.full;
-        order = is.order;
-        end = is.end;
-        gave = is.gave;
-      })
+      entered = is.entered;
+      leavers = is.leavers;
+      stayers = is.stayers;
+      calls = is.calls;
+      sizes = is.sizes;
+      full = is.full;
+      order = is.order;
+      end = is.end;
+      gave = is.gave;
+    })
     (λ _. record {
-        entered = is.entered;
-        leavers = is.leavers;
-        stayers = is.stayers;
-        calls = is.calls;
-        sizes = is.sizes;
-        full = is.full;
-        order = is.order;
-        end = is.end;
-        gave = is.gave;
-      })
+      entered = is.entered;
+      leavers = is.leavers;
+      stayers = is.stayers;
+      calls = is.calls;
+      sizes = is.sizes;
+      full = is.full;
+      order = is.order;
+      end = is.end;
+      gave = is.gave;
+    })
 
 module _ (c : Config) (run limit : ℕ) (opened : Stored) (past : List Entry) (w : ℕ) (s : State) (state : StateAgrees c run opened past s) where
   module _ (follows : IsRun c run limit (Run w ∷ past)) where

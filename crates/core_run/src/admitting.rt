@@ -1,5 +1,7 @@
 //! A request is admitted to be served: the third of the entries that come most, made without the ways of the others.
 ghost use Rattle.std.specs.Prelude.{◌≡◌, ◌∷◌, true, OnOk, OnErr};
+ghost use Rattle.poa_base.specs.declared.Entry.TheVariants.{Admit};
+ghost use Rattle.poa_base.specs.declared.Verdict.TheVariants.{Serve};
 ghost use Rattle.poa_history.specs.Life.{with_entry};
 ghost use Rattle.poa_history.specs.Runs.{IsRun};
 ghost use Rattle.core_run.specs.Agrees.{history};
@@ -56,5 +58,36 @@ pub fn begin(inside: &mut Inside, entry: Entry) -> Result<(), WantMemory>
         &mut inside.state,
     )?;
     note(inside, entry, stage, Brought::nothing());
+    Ok(())
+}
+
+/// The Admit of a request to the activation of a number.
+fn admission(worker: u32, arrival: u64, number: u32) -> Entry
+    ensures { result ≡ Admit worker arrival (Serve number) }
+{
+    Entry::Admit {
+        worker,
+        arrival,
+        verdict: Verdict::Serve(number),
+    }
+}
+
+/// The same where it is an activation that serves the request. The adapter is that of the activation, so nothing is asked of
+/// the key.
+pub fn serve(inside: &mut Inside, worker: u32, arrival: u64, number: u32) -> Result<(), WantMemory>
+    requires kept { IsKept inside.old }
+    requires follows { IsRun inside.old.config inside.old.run inside.old.limit
+        (Admit worker arrival (Serve number) ∷ history inside.old) }
+    ensures kept { IsKept inside.new }
+    ensures ok { OnOk result (life inside.new
+        ≡ with_entry (Admit worker arrival (Serve number)) (life inside.old)) }
+    ensures err { OnErr result (life inside.new ≡ life inside.old) }
+{
+    make_room_in_journal(inside)?;
+    if !core_standing::serve(arrival, number, &mut inside.state.standing)? {
+        return begin(inside, admission(worker, arrival, number));
+    }
+    let entry = admission(worker, arrival, number);
+    note(inside, entry, Stage::Free, Brought::nothing());
     Ok(())
 }

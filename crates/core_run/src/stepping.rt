@@ -64,7 +64,7 @@ pub fn next(inside: &mut Inside, worker: u32) -> Result<Option<Entry>, WantMemor
 }
 
 /// A worker that has nothing begun, or neither serves a request nor ran one, makes its next entry, if it has one.
-fn take_asked(inside: &mut Inside, worker: u32) -> Result<bool, WantMemory>
+fn proceed_asked(inside: &mut Inside, worker: u32) -> Result<bool, WantMemory>
     requires kept { IsKept inside.old }
     requires worker { worker < 16 }
     requires going { begun.is_abandoned (history inside.old) worker ≡ false }
@@ -94,7 +94,7 @@ pub fn proceed(inside: &mut Inside, worker: u32) -> Result<bool, WantMemory>
     match workers::stage(&inside.tables.workers, worker) {
         Stage::Serving(_) => run(inside, worker)?,
         Stage::Ran(_) => end(inside, worker),
-        _ => return take_asked(inside, worker),
+        _ => return proceed_asked(inside, worker),
     }
     Ok(true)
 }

@@ -13,3 +13,4 @@ mod Forgotten
 pub mod Staying
 pub mod Overs
 pub mod Lasting
+mod Served

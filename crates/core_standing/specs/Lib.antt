@@ -3,3 +3,4 @@ pub mod Kept
 pub mod Answers
 pub mod Flying
 pub mod Touched
+pub mod Serving

@@ -18,10 +18,12 @@ mod lives;
 pub mod orders;
 pub mod rules;
 pub mod searches;
+mod serving;
 mod settling;
 mod standing;
 mod touched;
 
 pub use beginning::opening;
 pub use changes::{advance, advance_kept, land, standing_of};
+pub use serving::serve;
 pub use standing::Standing;

@@ -5,7 +5,7 @@ use Rattle.core_run.specs.Agrees.{history}
 use Rattle.core_run.specs.ToCome.{only_ends}
 use Rattle.core_run.proofs.NextTurn.{ends_next, made}
 use Rattle.core_run.proofs.Proceeding.{follows_next}
-use Rattle.core_run.proofs.stepping.take_asked.Goals as goal
+use Rattle.core_run.proofs.stepping.proceed_asked.Goals as goal
 
 pub take-requires-clause-follows : goal.take-requires-clause-follows
 take-requires-clause-follows c =
