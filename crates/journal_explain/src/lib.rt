@@ -20,6 +20,7 @@ mod facing;
 mod lines;
 mod managers;
 mod moment;
+mod next;
 mod object_trail;
 mod outcome;
 mod replies;
