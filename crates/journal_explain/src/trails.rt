@@ -70,7 +70,7 @@ fn note(
         (Notes run.now next.now.entry.now next.now.place next.now.begun managers.now
         trail.old trail.new) }
 {
-    let told = event_of(alloc, run, next.entry, next.begun, trail.name.arrival)?;
+    let told = event_of(alloc, run, next, trail.name.arrival)?;
     let manager = ruler(alloc, run, next.entry, trail.name.arrival)?;
     let tenure = managers.told(run, manager)?;
     serve(run, next.entry, trail);
