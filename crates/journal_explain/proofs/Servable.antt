@@ -1,5 +1,5 @@
 -- The servant of an activation that has a call served next is the one that is kept of it.
-use Rattle.std.proofs.Common.{◌≡◌, ℕ, ◌==◌, true, false, ◌||◌, Option, Some, None, refl, sym, ap, ap₂, ◌∙◌, arith}
+use Rattle.std.proofs.Common.{◌≡◌, ℕ, ◌==◌, true, false, ◌||◌, ◌∷◌, Option, Some, None, refl, sym, ap, ap₂, ◌∙◌, arith}
 use Rattle.std.specs.Prelude.{option_and_then}
 use Rattle.std.proofs.lemmas.Bool.{eqb-true, false_from_ne_true, true≢false}
 use Rattle.poa_base.specs.declared.Config.{Config}
@@ -31,7 +31,8 @@ use Rattle.core_state.specs.State.{StateAgrees}
 use Rattle.core_state.specs.declared.state.State.{State}
 use Rattle.core_state.proofs.FreshFrom.{found_activation}
 use Rattle.journal_explain.specs.declared.servant.Servant.{Servant}
-use Rattle.journal_explain.specs.Serving.{servant_at, servant_of, served_with, serving_by}
+use Rattle.journal_explain.specs.declared.service.Service.{Service}
+use Rattle.journal_explain.specs.Serving.{servant_at, servant_of, served_with, service_by, serving_by}
 
 serves_by : (v : Verdict) (n : ℕ) → serving_by v ≡ Some n → v ≡ Serve n
 serves_by (Serve m) n is = (let same : Some m ≡ Some n = is in cc)
@@ -91,3 +92,12 @@ module _ (life : Life) (s : State) (is : StateAgrees life.config life.run (opene
       is_told
       ∙ (ap₂ (λ (c : Config) (sid : Option Sid). option_and_then (servant_of c) sid) config_is by
       ∙ ap (λ (o : Option Activation). option_and_then (servant_of life.config) (servant_of_activation o)) numbered_kept)
+
+abbrev told : Option ℕ → Option Servant → Option Service
+told begun servant = Some (record { servant = servant; begun = begun })
+
+-- so it is told of the activation
+pub service_is : (life : Life) (e : Entry) (begun : Option ℕ) (n : ℕ) → served_with e ≡ Some n → (found : Option Servant)
+    → found ≡ servant_at life.config life.run life.history n
+    → told begun found ≡ service_by life.config life.run life.history begun (served_with e)
+service_is life e begun n served found is = ap (told begun) is ∙ sym (ap (service_by life.config life.run life.history begun) served)

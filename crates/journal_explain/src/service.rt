@@ -24,6 +24,7 @@ pub(crate) fn service_with(run: &Run, next: &Next<'_>) -> Result<Option<Service>
         → IfOk result (λ service. service ≡ serving.service_by run.now.config run.now.run
         run.now.history next.now.begun (serving.served_with next.now.entry.now)) }
 {
+    run.keeps_laws();
     match served_with(next.entry) {
         Some(number) => {
             let servant = servant_at(run, number)?;
