@@ -36,7 +36,8 @@ pub(crate) fn decided_text(
     verdict: &Verdict,
     service: Option<&Service>,
 ) -> Result<Bytes, WantMemory>
-    ensures { IfOk result (λ text. text ≡ printed.decided_text verdict.now (option_copied service.entry)) }
+    ensures { IfOk result (λ text. text
+        ≡ printed.decided_text verdict.now (option_copied service.entry)) }
 {
     let decided = verdict_text(alloc, verdict)?;
     let mut out = decided.into_vec();
