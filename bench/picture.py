@@ -58,7 +58,7 @@ def phase_of(words, verdict, asks, before):
         phase = 'waiting'
     elif words.startswith('admitted') and verdict[0] in BY_VERDICT:
         phase = BY_VERDICT[verdict[0]]
-    elif words == 'the servant activator brought a servant':
+    elif words.startswith('the servant activator brought ') and words != 'the servant activator brought none':
         phase = 'serving'
     elif words == 'its servant ran':
         phase = 'running'

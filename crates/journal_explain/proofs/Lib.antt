@@ -2,6 +2,7 @@ mod Rows
 mod Turned
 mod Standing
 mod Living
+mod Servable
 mod Begun
 mod Going
 mod Beginning

@@ -1,16 +1,26 @@
--- The activation by which a request is served: with which entry it began, and with which it ends.
-use Rattle.std.specs.Prelude.{ℕ, ◌-◌, ◌==◌, nat_lt, Bool, false, not, ◌&&◌, if◌then◌else◌, List, [], ◌∷◌, ◌++◌, length, Option, Some, None, slice_get}
+-- The activation by which a request is served: its servant, with which entry it began, and with which it ends.
+use Rattle.std.specs.Prelude.{ℕ, ◌-◌, ◌==◌, nat_lt, Bool, false, not, ◌&&◌, if◌then◌else◌, List, [], ◌∷◌, ◌++◌, length, Option, Some, None, option_map, option_and_then, slice_get}
 use Rattle.std.specs.List.{list_any}
 use Rattle.poa_base.specs.declared.Config.{Config}
 use Rattle.poa_base.specs.declared.Entry.{Entry}
 use Rattle.poa_base.specs.declared.Entry.TheVariants.{Admit}
+use Rattle.poa_base.specs.declared.Incarnation.{Incarnation}
+use Rattle.poa_base.specs.declared.Incarnation.TheVariants as incarnation
+use Rattle.poa_base.specs.declared.Sid.{Sid}
+use Rattle.poa_base.specs.declared.Sid.TheVariants as sid
 use Rattle.poa_base.specs.declared.Verdict.{Verdict}
 use Rattle.poa_base.specs.declared.Verdict.TheVariants.{Serve, Incarnate}
 use Rattle.history_standing.specs.Changes.{standing}
 use Rattle.history_standing.specs.Opening.{opening}
 use Rattle.history_standing.specs.Standings.{is_active}
+use Rattle.history_standing.specs.Templates.{servant_name}
+use Rattle.poa_history.specs.States.{servant_of_activation}
+use Rattle.poa_history.specs.Turns.{activation_numbered}
 use Rattle.journal_explain.specs.declared.event.Event.{Event}
 use Rattle.journal_explain.specs.declared.event.Event.TheVariants as event
+use Rattle.journal_explain.specs.declared.servant.Servant.{Servant}
+use Rattle.journal_explain.specs.declared.servant.Servant.TheVariants as servant
+use Rattle.journal_explain.specs.declared.service.Service.{Service}
 
 -- how many activations were begun, those of the configuration among them
 abbrev pub begun_in : Config → ℕ → List Entry → ℕ
@@ -43,6 +53,26 @@ served_with e = None
 abbrev pub begun_for : Config → ℕ → List Entry → Option ℕ → Option ℕ
 begun_for c run past None = None
 begun_for c run past (Some n) = begun_with c run past n
+
+-- a servant: one of the configuration, by its name, or a fresh one
+abbrev pub servant_of : Config → Sid → Option Servant
+servant_of c (sid.Named k) = option_map (λ name. servant.Named name) (servant_name c k)
+servant_of c (sid.Fresh n) = Some (servant.Fresh n)
+
+-- the servant of the activation of this number, as it stands
+abbrev pub servant_at : Config → ℕ → List Entry → ℕ → Option Servant
+servant_at c run h n = option_and_then (servant_of c) (servant_of_activation (activation_numbered (standing c run h) n))
+
+-- an activation that has a request served, as it is told: by its servant, and by this entry, which began it
+abbrev pub service_by : Config → ℕ → List Entry → Option ℕ → Option ℕ → Option Service
+service_by c run past begun None = None
+service_by c run past begun (Some n) = Some (record { servant = servant_at c run past n; begun = begun })
+
+-- the servant that an answer of the servant activator brings
+abbrev pub servant_brought : Incarnation → Option Servant
+servant_brought (incarnation.Fresh n) = Some (servant.Fresh n)
+servant_brought (incarnation.Named name) = Some (servant.Named name)
+servant_brought answer = None
 
 -- the activation that serves a request, or is to serve it as soon as it has its servant
 abbrev pub server_of : Verdict → Option ℕ

@@ -5,7 +5,7 @@ use Rattle.poa_base.specs.declared.Entry.{Entry}
 use Rattle.poa_base.specs.declared.Entry.TheVariants.{Arrive, Collect, Admit, Tried, Incarnated, Run, Done}
 use Rattle.poa_base.specs.declared.Reply.{Reply}
 use Rattle.history_standing.specs.Arrivals.{arrivals, call_of, is_message}
-use Rattle.history_standing.specs.Stages.{arrival_in, brings, is_at, stage}
+use Rattle.history_standing.specs.Stages.{arrival_in, is_at, stage}
 use Rattle.history_standing.specs.Situations.{facts_of}
 use Rattle.poa_history.specs.Replies.{reply_of}
 use Rattle.poa_history.specs.States.{Stored}
@@ -22,7 +22,7 @@ use Rattle.journal_explain.specs.declared.wait.Wait.{Wait}
 use Rattle.journal_explain.specs.declared.wait.Wait.TheVariants.{Worker, Held}
 use Rattle.journal_explain.specs.Managers.{held_by, ruled_by}
 use Rattle.journal_explain.specs.Rows.{row_of}
-use Rattle.journal_explain.specs.Serving.{begun_for, ended_by, served_with}
+use Rattle.journal_explain.specs.Serving.{begun_for, ended_by, servant_brought, served_with, service_by, serving_by}
 
 -- what a look finds: a verdict, so that it waits for a worker alone; or what holds it
 abbrev pub wait_by : Look → Wait
@@ -45,9 +45,9 @@ at_work past w r told = if is_at r (arrival_in (stage past w)) then Some told el
 abbrev pub event_with : Config → ℕ → List Entry → Entry → Option ℕ → ℕ → Option Event
 event_with c run past (Arrive conn size call) begun r = if arrivals past == r then Some event.Arrived else None
 event_with c run past (Admit w a verdict) begun r =
-    if a == r then Some (event.Admitted w (row_for c run past r w) verdict begun) else None
+    if a == r then Some (event.Admitted w (row_for c run past r w) verdict (service_by c run past begun (serving_by verdict))) else None
 event_with c run past (Tried w answer) begun r = at_work past w r (event.Tried answer)
-event_with c run past (Incarnated w answer) begun r = at_work past w r (event.Incarnated (brings answer))
+event_with c run past (Incarnated w answer) begun r = at_work past w r (event.Incarnated (servant_brought answer))
 event_with c run past (Run w) begun r = at_work past w r event.Ran
 event_with c run past (Done w) begun r = at_work past w r event.Ended
 event_with c run past e begun r = None

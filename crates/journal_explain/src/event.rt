@@ -1,5 +1,7 @@
 //! What an entry of a journal is to a call.
 use crate::row::Row;
+use crate::servant::Servant;
+use crate::service::Service;
 use crate::wait::Wait;
 use poa_base::{Attempt, Reply, Verdict};
 
@@ -16,15 +18,14 @@ pub enum Event {
         worker: u32,
         row: Option<Row>,
         verdict: Verdict,
-        /// The entry that began the activation that serves it, by its place in the journal, from 0 on; none where that is one
-        /// of the configuration's, and where none serves it yet.
-        begun: Option<u64>,
+        /// The activation that serves it; none where none does, or not yet.
+        service: Option<Service>,
     },
     /// The adapter activator answered.
     Tried(Attempt),
-    /// The servant activator answered: it brought a servant, or none.
+    /// The servant activator answered: it brought this servant, or none.
     Incarnated {
-        brought: bool,
+        servant: Option<Servant>,
     },
     /// Its servant ran.
     Ran,

@@ -1,5 +1,5 @@
 //! Calls explained from a journal: the adapter that each asks, what happened to it with each entry, what it waited for, which row
-//! of the table of verdicts decided it, the activation that serves it, and its reply; or of all calls what came of them.
+//! of the table of verdicts decided it, the activation that serves it and its servant, and its reply; or of all calls what came of them.
 //! `specs/Rows.antt` has the rows by their names, `specs/Managers.antt` since when the managers are in their states,
 //! `specs/Adapters.antt` the adapter of a call, `specs/Serving.antt` its activation, `specs/Stories.antt` what is told of a call,
 //! `specs/Objects.antt` what of an object, and `specs/Outcomes.antt` what came of all.
@@ -20,13 +20,16 @@ mod facing;
 mod lines;
 mod managers;
 mod moment;
+mod next;
 mod object_trail;
 mod outcome;
 mod replies;
 mod row;
 mod ruling;
 mod selection;
+mod servant;
 mod server;
+mod service;
 mod since;
 mod slots;
 mod step;
@@ -56,6 +59,8 @@ pub use object_trail::ObjectTrail;
 pub use outcome::Outcome;
 pub use row::Row;
 pub use selection::Selection;
+pub use servant::Servant;
+pub use service::Service;
 pub use since::Since;
 pub use step::Step;
 pub use tenure::Tenure;

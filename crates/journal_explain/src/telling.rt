@@ -6,29 +6,30 @@ ghost use Rattle.journal_explain.specs.Stories as stories;
 use crate::deciding::row_of;
 use crate::event::Event;
 use crate::facing::facts;
+use crate::next::Next;
 use crate::row::Row;
+use crate::servant::Servant;
+use crate::service::service_with;
 use core_run::Run;
 use poa_base::{Entry, TryClone, WantMemory};
-use poa_history::workers::{arrival_in, brings, is_at};
+use poa_history::workers::{arrival_in, is_at};
 use std::alloc::Global;
 
 /// How many workers a run has.
 const WORKERS: u32 = 16;
 
-/// What the next entry of a run, where it may follow, is to a call, beside the reply that is collected with it. Where it has the
-/// call served, the entry `begun` began the activation that serves it.
+/// What the next entry of a run, where it may follow, is to a call, beside the reply that is collected with it.
 pub(crate) fn event_of(
     alloc: Global,
     run: &Run,
-    entry: &Entry,
-    begun: Option<u64>,
+    next: &Next<'_>,
     arrival: u64,
 ) -> Result<Option<Event>, WantMemory>
-    ensures { Follows run.now entry.now
-        → IfOk result (λ told. told
-        ≡ stories.event_with run.now.config run.now.run run.now.history entry.now begun arrival) }
+    ensures { Follows run.now next.now.entry.now
+        → IfOk result (λ told. told ≡ stories.event_with run.now.config run.now.run
+        run.now.history next.now.entry.now next.now.begun arrival) }
 {
-    match entry {
+    match next.entry {
         Entry::Arrive { .. } => Ok(same(run.arrivals(), arrival, Event::Arrived)),
         Entry::Admit {
             worker,
@@ -36,21 +37,22 @@ pub(crate) fn event_of(
             verdict,
         } if *admitted == arrival => {
             let row = row_for(alloc, run, *worker, arrival)?;
+            let service = service_with(run, next)?;
             let verdict = verdict.try_clone()?;
             let worker = *worker;
             Ok(Some(Event::Admitted {
                 worker,
                 row,
                 verdict,
-                begun,
+                service,
             }))
         }
         Entry::Tried { worker, answer } => {
             Ok(at_work(run, *worker, arrival, Event::Tried(*answer)))
         }
         Entry::Incarnated { worker, answer } => {
-            let brought = brings(answer);
-            Ok(at_work(run, *worker, arrival, Event::Incarnated { brought }))
+            let servant = Servant::brought(answer)?;
+            Ok(at_work(run, *worker, arrival, Event::Incarnated { servant }))
         }
         Entry::Run { worker } => Ok(at_work(run, *worker, arrival, Event::Ran)),
         Entry::Done { worker } => Ok(at_work(run, *worker, arrival, Event::Ended)),

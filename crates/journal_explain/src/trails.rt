@@ -7,6 +7,7 @@ use crate::adapter::adapter_at;
 use crate::call_name::CallName;
 use crate::facing::wait_of;
 use crate::managers::Managers;
+use crate::next::Next;
 use crate::ruling::{holder, ruler};
 use crate::selection::Selection;
 use crate::server::{ended, server_with, serves};
@@ -40,22 +41,20 @@ pub(crate) fn begin(
     Ok(())
 }
 
-/// Notes what the next entry of a run, where it may follow, is to each call. Where it has one served, the entry `begun` began the
-/// activation that serves it.
+/// Notes what the next entry of a run, where it may follow, is to each call.
 pub(crate) fn note_each(
     alloc: Global,
     run: &Run,
-    entry: &Entry,
-    place: u64,
-    begun: Option<u64>,
+    next: &Next<'_>,
     managers: &Managers,
     trails: &mut Vec<Trail>,
 ) -> Result<(), WantMemory>
     ensures { OnOk result (AllZip
-        (Notes run.now entry.now place begun managers.now) trails.old.items trails.new.items) }
+        (Notes run.now next.now.entry.now next.now.place next.now.begun managers.now)
+        trails.old.items trails.new.items) }
 {
     for trail in trails.iter_mut() {
-        note(alloc, run, entry, place, begun, managers, trail)?;
+        note(alloc, run, next, managers, trail)?;
     }
     Ok(())
 }
@@ -63,19 +62,19 @@ pub(crate) fn note_each(
 fn note(
     alloc: Global,
     run: &Run,
-    entry: &Entry,
-    place: u64,
-    begun: Option<u64>,
+    next: &Next<'_>,
     managers: &Managers,
     trail: &mut Trail,
 ) -> Result<(), WantMemory>
-    ensures { OnOk result (Notes run.now entry.now place begun managers.now trail.old trail.new) }
+    ensures { OnOk result
+        (Notes run.now next.now.entry.now next.now.place next.now.begun managers.now
+        trail.old trail.new) }
 {
-    let told = event_of(alloc, run, entry, begun, trail.name.arrival)?;
-    let manager = ruler(alloc, run, entry, trail.name.arrival)?;
+    let told = event_of(alloc, run, next, trail.name.arrival)?;
+    let manager = ruler(alloc, run, next.entry, trail.name.arrival)?;
     let tenure = managers.told(run, manager)?;
-    serve(run, entry, trail);
-    trail.note(place, told, tenure)
+    serve(run, next.entry, trail);
+    trail.note(next.place, told, tenure)
 }
 
 /// Notes which activation serves a call with the next entry of a run, and whether it is active before it.

@@ -7,6 +7,7 @@ use crate::beginnings::Beginnings;
 use crate::came::{Came, note_came};
 use crate::doing::Doing;
 use crate::managers::Managers;
+use crate::next::Next;
 use crate::object_trail::ObjectTrail;
 use crate::selection::Selection;
 use crate::server::served_with;
@@ -65,16 +66,13 @@ impl Watch {
         ensures { OnOk result (HasNoted run.now entry.now place self.old self.new) }
     {
         let begun = self.beginnings.told(served_with(entry));
-        begin(alloc, &self.asked, run, place, entry, &mut self.trails)?;
-        note_each(
-            alloc,
-            run,
+        let next = Next {
             entry,
             place,
             begun,
-            &self.managers,
-            &mut self.trails,
-        )?;
+        };
+        begin(alloc, &self.asked, run, place, entry, &mut self.trails)?;
+        note_each(alloc, run, &next, &self.managers, &mut self.trails)?;
         self.managers.note(run, entry, place)?;
         if self.asked.is_all() {
             note_came(alloc, run, entry, place, &mut self.came)?;

@@ -2,6 +2,7 @@ pub mod Printing
 pub mod Auditing
 pub mod Linking
 pub mod Calls
+pub mod Servants
 pub mod Verdicts
 pub mod Replies
 pub mod Managers

@@ -17,11 +17,11 @@ unseen call = record { call = call; phase = Over; worker = None; activation = No
 
 -- who admitted the call last, and for which activation
 abbrev pub worker_by : Event → Option ℕ → Option ℕ
-worker_by (event.Admitted worker row v begun) before = Some worker
+worker_by (event.Admitted worker row v service) before = Some worker
 worker_by other before = before
 
 abbrev pub activation_by : Event → Option ℕ → Option ℕ
-activation_by (event.Admitted worker row v begun) before = activation_of v
+activation_by (event.Admitted worker row v service) before = activation_of v
 activation_by other before = before
 
 -- the bar ends with this entry

@@ -1,5 +1,5 @@
 -- The phases of a call that a picture shows, and how each looks.
-use Rattle.std.specs.Prelude.{ℕ, Bool, true, false, List, [], ◌∷◌, codes, Option, Some, None}
+use Rattle.std.specs.Prelude.{ℕ, Bool, true, false, List, [], ◌∷◌, codes, Option, Some, None, is_some}
 use Rattle.poa_base.specs.declared.Attempt.{Attempt}
 use Rattle.poa_base.specs.declared.Attempt.TheVariants as attempt
 use Rattle.poa_base.specs.declared.Verdict.{Verdict}
@@ -55,9 +55,9 @@ done asks other = replied asks
 abbrev pub phase_by : Bool → Phase → Event → Phase
 phase_by asks before event.Arrived = phase.Waiting
 phase_by asks before (event.Waits wait) = waiting wait
-phase_by asks before (event.Admitted worker row v begun) = decided asks v
+phase_by asks before (event.Admitted worker row v service) = decided asks v
 phase_by asks before (event.Tried answer) = tried asks answer
-phase_by asks before (event.Incarnated b) = brought asks b
+phase_by asks before (event.Incarnated servant) = brought asks (is_some servant)
 phase_by asks before event.Ran = phase.Running
 phase_by asks before event.Ended = done asks before
 phase_by asks before (event.Collected reply) = taken before

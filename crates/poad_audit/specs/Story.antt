@@ -1,5 +1,5 @@
 -- What is printed of calls.
-use Rattle.std.specs.Prelude.{ℕ, List, [], ◌++◌, ◌∷◌, codes, decimal, Bool, true, false, Option, Some, None}
+use Rattle.std.specs.Prelude.{ℕ, List, [], ◌++◌, ◌∷◌, codes, decimal, Option, Some, None}
 use Rattle.poa_base.specs.declared.Attempt.{Attempt}
 use Rattle.poa_base.specs.declared.Attempt.TheVariants as attempt
 use Rattle.poa_base.specs.declared.Verdict.{Verdict}
@@ -10,6 +10,7 @@ use Rattle.journal_explain.specs.declared.Event.{Event}
 use Rattle.journal_explain.specs.declared.Event.TheVariants as event
 use Rattle.journal_explain.specs.declared.Row.{Row}
 use Rattle.journal_explain.specs.declared.Row.TheVariants as row
+use Rattle.journal_explain.specs.declared.Service.{Service}
 use Rattle.journal_explain.specs.declared.Step.{Step}
 use Rattle.journal_explain.specs.declared.Tenure.{Tenure}
 use Rattle.journal_explain.specs.declared.Trail.{Trail}
@@ -19,6 +20,7 @@ use Rattle.poad_audit.specs.Adapters.{adapter_text}
 use Rattle.poad_audit.specs.Calls.{call_text}
 use Rattle.poad_audit.specs.Managers.{held_since, ruler_text}
 use Rattle.poad_audit.specs.Replies.{collected_text}
+use Rattle.poad_audit.specs.Servants.{brought_text}
 use Rattle.poad_audit.specs.Verdicts.{decided_text}
 
 abbrev pub row_text : Row → List ℕ
@@ -77,17 +79,13 @@ attempt_text attempt.No = codes "the adapter activator made none"
 attempt_text attempt.Raised = codes "the adapter activator raised an exception"
 attempt_text attempt.Dying = codes "the adapter above is being destroyed"
 
-abbrev pub brought_text : Bool → List ℕ
-brought_text true = codes "the servant activator brought a servant"
-brought_text false = codes "the servant activator brought none"
-
 -- why it was admitted, and what was decided
 abbrev pub admitted_head : ℕ → List ℕ
 admitted_head w = codes "admitted by worker " ++ (decimal w ++ codes ": ")
 
-abbrev pub admitted_text : ℕ → Option Row → Option Tenure → Verdict → Option ℕ → List ℕ
-admitted_text w row manager verdict begun =
-    admitted_head w ++ (reason_text row ++ (ruler_text manager ++ (codes "; " ++ decided_text verdict begun)))
+abbrev pub admitted_text : ℕ → Option Row → Option Tenure → Verdict → Option Service → List ℕ
+admitted_text w row manager verdict service =
+    admitted_head w ++ (reason_text row ++ (ruler_text manager ++ (codes "; " ++ decided_text verdict service)))
 
 -- the activation that serves it isn't active any more
 abbrev pub ends_text : ℕ → List ℕ
@@ -97,9 +95,9 @@ ends_text n = codes "activation " ++ (decimal n ++ codes " is ending")
 abbrev pub event_text : Event → Option Tenure → List ℕ
 event_text event.Arrived manager = codes "arrived"
 event_text (event.Waits wait) manager = waits_text wait manager
-event_text (event.Admitted w row verdict begun) manager = admitted_text w row manager verdict begun
+event_text (event.Admitted w row verdict service) manager = admitted_text w row manager verdict service
 event_text (event.Tried answer) manager = attempt_text answer
-event_text (event.Incarnated brought) manager = brought_text brought
+event_text (event.Incarnated servant) manager = brought_text servant
 event_text event.Ran manager = codes "its servant ran"
 event_text event.Ended manager = codes "the request ended"
 event_text (event.Collected reply) manager = collected_text reply

@@ -1,5 +1,5 @@
 -- A verdict on a call, in words.
-use Rattle.std.specs.Prelude.{ℕ, List, [], ◌∷◌, ◌++◌, codes, decimal, Option, Some, None}
+use Rattle.std.specs.Prelude.{ℕ, List, [], ◌∷◌, ◌++◌, codes, decimal, Option}
 use Rattle.poa_base.specs.declared.Answer.{Answer}
 use Rattle.poa_base.specs.declared.Endpoint.{Endpoint}
 use Rattle.poa_base.specs.declared.SysExc.{SysExc}
@@ -9,6 +9,8 @@ use Rattle.text_words.specs.Token.{minor, tails}
 use Rattle.text_words.specs.Parts.{endpoint_tokens}
 use Rattle.admin_line.specs.Answer.{answer_tokens}
 use Rattle.poa_journal.specs.ValueWords.{exception_word}
+use Rattle.journal_explain.specs.declared.Service.{Service}
+use Rattle.poad_audit.specs.Servants.{service_text}
 
 -- the exception's standard name, and its minor code in eight hexadecimal digits
 abbrev pub exception_text : SysExc → List ℕ
@@ -38,15 +40,6 @@ verdict_text verdict.Unknown = codes "answered that the object is unknown"
 verdict_text (verdict.Answer answer) = answered_text answer
 verdict_text verdict.Wait = codes "done, and its answer waits"
 
--- with which entry an activation began
-abbrev pub since_text : Option ℕ → List ℕ
-since_text (Some entry) = codes ", begun with entry " ++ decimal entry
-since_text None = codes ", one of the configuration's"
-
--- behind the activation that serves the call
-abbrev pub begun_text : Verdict → Option ℕ → List ℕ
-begun_text (verdict.Serve n) begun = since_text begun
-begun_text other begun = []
-
-abbrev pub decided_text : Verdict → Option ℕ → List ℕ
-decided_text v begun = verdict_text v ++ begun_text v begun
+-- and what is told of the activation that serves the call
+abbrev pub decided_text : Verdict → Option Service → List ℕ
+decided_text v service = verdict_text v ++ service_text service

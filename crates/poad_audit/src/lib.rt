@@ -15,6 +15,7 @@ mod picture;
 mod printing;
 mod reply_text;
 mod row_text;
+mod servant_text;
 mod stored_text;
 mod story;
 mod table;

@@ -7,9 +7,10 @@ use crate::call_text::put_call;
 use crate::manager_text::{held_since, ruler_text};
 use crate::reply_text::collected_text;
 use crate::row_text::reason_text;
+use crate::servant_text::brought_text;
 use crate::verdict_text::{decided_text, fixed};
 use held_queue::Hold;
-use journal_explain::{CallName, Event, Row, Step, Tenure, Trail, Wait};
+use journal_explain::{CallName, Event, Row, Service, Step, Tenure, Trail, Wait};
 use poa_base::{Attempt, Bytes, Verdict, WantMemory};
 use std::alloc::Global;
 
@@ -99,24 +100,14 @@ fn event_text(alloc: Global, event: &Event, manager: Option<&Tenure>) -> Result<
             worker,
             row,
             verdict,
-            begun,
-        } => admitted_text(alloc, *worker, *row, manager, verdict, *begun),
+            service,
+        } => admitted_text(alloc, *worker, *row, manager, verdict, service.as_ref()),
         Event::Tried(answer) => attempt_text(alloc, *answer),
-        Event::Incarnated { brought } => fixed(alloc, brought_text(*brought)),
+        Event::Incarnated { servant } => brought_text(alloc, servant.as_ref()),
         Event::Ran => fixed(alloc, "its servant ran"),
         Event::Ended => fixed(alloc, "the request ended"),
         Event::Collected(reply) => collected_text(alloc, reply),
         Event::Ends(number) => ends_text(alloc, *number),
-    }
-}
-
-fn brought_text(brought: bool) -> &'static str
-    ensures { result.now ≡ printed.brought_text brought }
-{
-    if brought {
-        "the servant activator brought a servant"
-    } else {
-        "the servant activator brought none"
     }
 }
 
@@ -126,14 +117,15 @@ fn admitted_text(
     row: Option<Row>,
     manager: Option<&Tenure>,
     verdict: &Verdict,
-    begun: Option<u64>,
+    service: Option<&Service>,
 ) -> Result<Bytes, WantMemory>
     ensures { IfOk result (λ text. text
-        ≡ printed.admitted_text worker row (option_copied manager.entry) verdict.now begun) }
+        ≡ printed.admitted_text worker row (option_copied manager.entry) verdict.now
+        (option_copied service.entry)) }
 {
     let reason = fixed(alloc, reason_text(row))?;
     let ruler = ruler_text(alloc, manager)?;
-    let decided = decided_text(alloc, verdict, begun)?;
+    let decided = decided_text(alloc, verdict, service)?;
     let mut out = admitted_head(alloc, worker)?;
     out.extend_from_slice(reason.as_slice())?;
     out.extend_from_slice(ruler.as_slice())?;

@@ -1,9 +1,11 @@
 //! A verdict on a call, in words.
-ghost use Rattle.std.specs.Prelude.{◌≡◌, ◌++◌, IfOk, decimal};
+ghost use Rattle.std.specs.Prelude.{◌≡◌, ◌++◌, IfOk, decimal, option_copied};
 ghost use Rattle.poa_journal.specs.ValueWords.{exception_word};
 ghost use Rattle.poad_audit.specs.Verdicts as printed;
 
+use crate::servant_text::put_service;
 use admin_line::put_answer;
+use journal_explain::Service;
 use poa_base::{Answer, Bytes, Endpoint, ExcName, Name, SysExc, Verdict, WantMemory};
 use std::alloc::Global;
 use text_words::{put_endpoint, put_minor};
@@ -28,41 +30,19 @@ fn verdict_text(alloc: Global, verdict: &Verdict) -> Result<Bytes, WantMemory>
     }
 }
 
-/// The same, and with which entry the activation began that serves the call.
+/// The same, and what is told of the activation that serves the call.
 pub(crate) fn decided_text(
     alloc: Global,
     verdict: &Verdict,
-    begun: Option<u64>,
+    service: Option<&Service>,
 ) -> Result<Bytes, WantMemory>
-    ensures { IfOk result (λ text. text ≡ printed.decided_text verdict.now begun) }
+    ensures { IfOk result (λ text. text
+        ≡ printed.decided_text verdict.now (option_copied service.entry)) }
 {
     let decided = verdict_text(alloc, verdict)?;
-    let since = begun_text(alloc, verdict, begun)?;
     let mut out = decided.into_vec();
-    out.extend_from_slice(since.as_slice())?;
+    put_service(alloc, &mut out, service)?;
     Ok(Bytes::from_vec(out))
-}
-
-/// Behind the activation that serves a call: with which entry it began.
-fn begun_text(alloc: Global, verdict: &Verdict, begun: Option<u64>) -> Result<Bytes, WantMemory>
-    ensures { IfOk result (λ text. text ≡ printed.begun_text verdict.now begun) }
-{
-    match verdict {
-        Verdict::Serve(_) => since_text(alloc, begun),
-        _ => Ok(Bytes::new(alloc)),
-    }
-}
-
-fn since_text(alloc: Global, begun: Option<u64>) -> Result<Bytes, WantMemory>
-    ensures { IfOk result (λ text. text ≡ printed.since_text begun) }
-{
-    match begun {
-        Some(entry) => {
-            let text = format!(in alloc; ", begun with entry {entry}")?;
-            Ok(Bytes::from_vec(text.into_bytes()))
-        }
-        None => fixed(alloc, ", one of the configuration's"),
-    }
 }
 
 /// A text that is always the same.
@@ -79,7 +59,8 @@ fn numbered(alloc: Global, front: &str, number: u32) -> Result<Bytes, WantMemory
     Ok(Bytes::from_vec(text.into_bytes()))
 }
 
-fn named(alloc: Global, front: &str, name: &Name) -> Result<Bytes, WantMemory>
+/// A name behind a text.
+pub(crate) fn named(alloc: Global, front: &str, name: &Name) -> Result<Bytes, WantMemory>
     ensures { IfOk result (λ text. text ≡ front.now ++ name.now) }
 {
     let mut out = Vec::from_slice(alloc, front.as_bytes())?;

@@ -41,7 +41,7 @@ impl Phase {
             Event::Waits(wait) => waiting(*wait),
             Event::Admitted { verdict, .. } => decided(asked, verdict),
             Event::Tried(answer) => tried(asked, *answer),
-            Event::Incarnated { brought } => brought_by(asked, *brought),
+            Event::Incarnated { servant } => brought_by(asked, servant.is_some()),
             Event::Ran => Phase::Running,
             Event::Ended => self.done(asked),
             Event::Collected(_) => self.taken(),
