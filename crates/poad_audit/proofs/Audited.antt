@@ -1,5 +1,5 @@
 -- A journal in one file, audited by the configuration in another, with the link of two files: what is read of each.
-use Rattle.std.proofs.Common.{◌≡◌, ◌⊎◌, ℕ, ◌<◌, List, length, Option, Some, None, Result, Ok, Err, inl, inr, sym, ◌∙◌, subst}
+use Rattle.std.proofs.Common.{◌≡◌, ℕ, ◌<◌, List, length, Option, Some, None, Ok, Err, inl, inr, sym, ◌∙◌, subst}
 use Rattle.std.specs.Option.{IsSomeAnd}
 use Rattle.outside.specs.Keeping.{Contents}
 use Rattle.outside.specs.Told.{IfTold}
@@ -11,13 +11,12 @@ use Rattle.poa_journal.specs.declared.fault.JournalFault.TheVariants as fault
 use Rattle.journal_audit.specs.Matching.{LinkBytes}
 use Rattle.journal_audit.specs.declared.report.Report.{Report}
 use Rattle.journal_audit.specs.Texts.{Audits, AuditsText}
-use Rattle.poad_files.specs.Showing.{GainsNothing}
 use Rattle.poad_files.specs.declared.status.Status.{Status}
 use Rattle.poad_files.specs.declared.status.Status.TheVariants as status
 use Rattle.poad_files.specs.Taking.{HoldsStill, IsHeld, Refused, TakesConfig}
 use Rattle.poad_files.proofs.Told.{told_then}
 use Rattle.poad_files.proofs.Files.{config_on, same_held}
-use Rattle.poad_audit.specs.Auditing.{journal_limit, link_limit, no_config, no_input, no_journal, no_link, no_output, not_taken, AuditsBytes, AuditsEntries, AuditsFiles, AuditsJournal, AuditsLink, AuditsTaken, HoldsLink, LinkRefused, NoLink, RefusesLink, TakesLink, Tells}
+use Rattle.poad_audit.specs.Auditing.{journal_limit, link_limit, no_config, no_input, no_journal, no_link, no_output, not_taken, AuditsBytes, AuditsFiles, AuditsJournal, AuditsTaken, LinkRefused, NoLink, RefusesLink, TakesLink, Tells}
 use Rattle.poad_audit.specs.Linking.{RefusesText, TakesBytes, Untaken, refusal_of}
 
 -- what holds of a take holds also of one that left all before it

@@ -1,10 +1,9 @@
 -- The line of a key is a function of its octets.
 use Rattle.std.proofs.Common.{◌≡◌, ℕ, List, ◌++◌, Option, Some, None, Result, Ok, Err, OnOk, inl, inr, refl, sym, ◌∙◌, ap}
 use Rattle.poa_base.specs.declared.Key.{Key}
-use Rattle.object_key.specs.Spelling.{IsKey, key_spelling}
 use Rattle.history_standing.specs.Keys.{key_of}
 use Rattle.poa_history.proofs.KeysSpelled.{key_spelled, spelling_found}
-use Rattle.poad_files.specs.KeyLine.{KeyShown, ShowsKey, ShowsNoKey}
+use Rattle.poad_files.specs.KeyLine.{KeyShown, ShowsNoKey}
 use Rattle.poad_files.specs.Shown.{Adds}
 use Rattle.poad_audit.specs.Calls.{key_by, key_text}
 

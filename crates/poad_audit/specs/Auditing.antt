@@ -1,5 +1,5 @@
 -- What `audit` writes, and its status.
-use Rattle.std.specs.Prelude.{◌≡◌, ◌⊎◌, ℕ, ⊤, List, ◌++◌, Option, Some, None, Ok as OkResult, Err, take}
+use Rattle.std.specs.Prelude.{◌≡◌, ℕ, ⊤, List, ◌++◌, Option, Some, None, Ok as OkResult, Err, take}
 use Rattle.outside.specs.Keeping.{Contents}
 use Rattle.outside.specs.Told.{IfTold}
 use Rattle.command_words.specs.Auditing.{Audit, LinkNames}

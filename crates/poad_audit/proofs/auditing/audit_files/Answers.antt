@@ -1,5 +1,5 @@
 use Rattle.command_words.specs.Auditing.{seen_audit}
-use Rattle.poad_audit.proofs.Audited.{audits_no_config, audits_no_journal, audits_read}
+use Rattle.poad_audit.proofs.Audited.{audits_read}
 use Rattle.poad_audit.proofs.auditing.audit_files.Goals as goal
 
 pub returns-in-Ok-take-clause-audits : goal.returns-in-Ok-take-clause-audits
