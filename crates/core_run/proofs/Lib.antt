@@ -23,3 +23,4 @@ pub mod ArrivedThen
 pub mod Served
 pub mod Begins
 pub mod Proceeding
+pub mod Idling

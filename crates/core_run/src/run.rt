@@ -169,6 +169,14 @@ impl Run {
         stepping::proceed(&mut self.inside, worker)
     }
 
+    /// Whether it is seen at a glance that a worker below 16 makes no entry next.
+    pub fn is_surely_idle(&self, worker: u32) -> bool
+        requires { worker < 16 }
+        ensures { result ≡ true → turn self.now.config self.now.run self.now.history worker ≡ None }
+    {
+        stepping::is_surely_idle(&self.inside, worker)
+    }
+
     /// The number of the next connection; none where 4,000,000 entered.
     pub fn next_connection(&self) -> Option<u32>
         ensures { result ≡ (if nat_lt (connections self.now.history) 4000000 then Some

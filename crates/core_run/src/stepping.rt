@@ -1,5 +1,5 @@
 //! The next entry of a worker.
-ghost use Rattle.std.specs.Prelude.{◌≡◌, ◌<◌, true, false, IfOk, IsOk, OnErr};
+ghost use Rattle.std.specs.Prelude.{◌≡◌, ◌<◌, true, false, None, IfOk, IsOk, OnErr};
 ghost use Rattle.history_standing.specs.Stages as begun;
 ghost use Rattle.poa_history.specs.Turns.{turn};
 ghost use Rattle.core_arrivals.specs.Begun.{only_ends};
@@ -10,7 +10,7 @@ ghost use Rattle.core_run.specs.Proceeds.{Proceeds};
 use crate::inside::Inside;
 use crate::running::{end, run};
 use crate::taking::take;
-use core_arrivals::workers;
+use core_arrivals::{queue, workers};
 use core_turns::Known;
 use history_standing::Stage;
 use poa_base::{Entry, WantMemory};
@@ -97,4 +97,20 @@ pub fn proceed(inside: &mut Inside, worker: u32) -> Result<bool, WantMemory>
         _ => return proceed_asked(inside, worker),
     }
     Ok(true)
+}
+
+/// Whether it is seen at a glance that a worker makes no entry next: it has nothing begun, no call waits, and no activation is on
+/// its way in or out.
+pub fn is_surely_idle(inside: &Inside, worker: u32) -> bool
+    requires kept { IsKept inside.now }
+    requires worker { worker < 16 }
+    ensures none { result ≡ true
+        → turn inside.now.config inside.now.run (history inside.now) worker ≡ None }
+{
+    match workers::stage(&inside.tables.workers, worker) {
+        Stage::Free => {
+            queue::count(&inside.tables.queue) == 0 && inside.state.standing.activations.is_still()
+        }
+        _ => false,
+    }
 }

@@ -1,5 +1,5 @@
 //! The core of the adapter.
-ghost use Rattle.std.specs.Prelude.{◌≡◌, ◌≤◌, ◌<◌, option_map, reverse, IfOk};
+ghost use Rattle.std.specs.Prelude.{◌≡◌, ◌≤◌, ◌<◌, true, None, option_map, reverse, IfOk};
 ghost use Rattle.poa_history.specs.Phases.{phase_of};
 ghost use Rattle.poa_policy.specs.Kept.{KeepsRules};
 ghost use Rattle.history_laws.specs.Lasting.{KeepsUpdates, LeavesNothing};
@@ -11,6 +11,7 @@ ghost use Rattle.poa_history.specs.Lifetime.{HasLifetime};
 ghost use Rattle.history_standing.specs.Nodes.{node_at};
 ghost use Rattle.poa_base.specs.declared.Entry.TheVariants.{Left};
 ghost use Rattle.poa_history.specs.Life.{begun, opened, with_entry};
+ghost use Rattle.poa_history.specs.Turns.{turn};
 ghost use Rattle.core_run.specs.Agrees.{AreOwed, StateAgrees};
 ghost use Rattle.core_run.specs.Known.{TablesAgree};
 ghost use Rattle.core_run.specs.Agreeing.{CountsAgree, QueuesAgree, RemovalsAgree};
@@ -109,6 +110,14 @@ impl Core {
         ensures { answers.Steps worker self.old result self.new }
     {
         stepping::step(&mut self.run, worker)
+    }
+
+    /// Whether it is seen at a glance that a worker below 16 makes no entry next.
+    pub fn is_surely_idle(&self, worker: u32) -> bool
+        requires { worker < 16 }
+        ensures { result ≡ true → turn self.now.config self.now.run self.now.history worker ≡ None }
+    {
+        self.run.is_surely_idle(worker)
     }
 
     /// A connection that entered is given its next reply, which is one to a call of its kind. It may have left. Takes

@@ -53,8 +53,8 @@ fn help_within<R: Wait>(
 {
     for _ in 0..TURNS {
         match shared.step_running(rt, front, seat, HELPED, news) {
-            Some(Ok(StepOut::Did(_))) => (),
-            Some(Ok(StepOut::Idle { .. })) => {
+            Some(Ok(StepOut::Did(_))) if !news.is_last_turn => (),
+            Some(Ok(StepOut::Did(_) | StepOut::Idle { .. })) => {
                 news.note_idle();
                 return;
             }

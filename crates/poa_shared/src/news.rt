@@ -19,6 +19,8 @@ pub struct News {
     pub(crate) is_for_workers: bool,
     /// Whether everybody is concerned.
     pub(crate) is_for_all: bool,
+    /// Whether it is seen that the worker of the turn makes no entry behind it.
+    pub(crate) is_last_turn: bool,
 }
 
 impl News {
@@ -30,6 +32,7 @@ impl News {
             is_for_worker: false,
             is_for_workers: false,
             is_for_all: false,
+            is_last_turn: false,
         }
     }
 
@@ -57,8 +60,9 @@ impl News {
         self.is_for_workers = false;
     }
 
-    /// Notes to whom an entry gave replies. A command may have made calls ready for any worker.
-    pub(crate) fn note(&mut self, fresh: Fresh) {
+    /// Notes to whom an entry gave replies, and whether it is seen that its worker makes none behind it. A command may have made
+    /// calls ready for any worker.
+    pub(crate) fn note(&mut self, fresh: Fresh, is_last_turn: bool) {
         if let Some(conn) = fresh.first {
             if self.own != Some(conn) {
                 self.slots |= 1 << (conn % SLOTS);
@@ -66,6 +70,7 @@ impl News {
         }
         self.slots |= fresh.others;
         self.is_for_workers |= fresh.has_answer;
+        self.is_last_turn = is_last_turn;
     }
 
     /// Notes the phase before and after a turn: that a shutdown was admitted concerns everybody.

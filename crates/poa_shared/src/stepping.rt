@@ -84,7 +84,7 @@ fn step_noted(core: &mut Core, worker: u32, news: &mut News) -> Result<StepOut, 
     let phase = core.phase();
     let result = core.step(worker);
     if let Ok(StepOut::Did(_)) = result {
-        news.note(core.fresh());
+        news.note(core.fresh(), core.is_surely_idle(worker));
     }
     news.note_phase(phase, core.phase());
     result

@@ -17,8 +17,8 @@ loop-preserved g c = record {
       (view c.step_running.new.seat) c.loop.invariant.so_far c.step_running.ensures.stepped;
 }
 
-pub returns-in-Some-Ok-Idle-clause-helps : goal.returns-in-Some-Ok-Idle-clause-helps
-returns-in-Some-Ok-Idle-clause-helps g c =
+pub returns-in-Some-Ok-Did-2-clause-helps : goal.returns-in-Some-Ok-Did-2-clause-helps
+returns-in-Some-Ok-Did-2-clause-helps g c =
     steps_on c.step_running.result (view c.args.seat.now) (view c.loop.seat)
     (view c.step_running.new.seat) c.loop.invariant.so_far c.step_running.ensures.stepped
 
