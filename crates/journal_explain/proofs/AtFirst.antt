@@ -5,13 +5,13 @@ use Rattle.poa_base.specs.declared.Entry.{Entry}
 use Rattle.poa_history.specs.Life.{Life, opened}
 use Rattle.journal_audit.specs.declared.Refusal.{Refusal}
 use Rattle.journal_explain.specs.declared.came.Came.{Came}
-use Rattle.journal_explain.specs.declared.since.Since.{Since}
+use Rattle.journal_explain.specs.declared.origin.Origin.{Origin}
 use Rattle.journal_explain.specs.declared.trail.Trail.{Trail}
 use Rattle.journal_explain.specs.declared.watch.Watch.{Watch}
 use Rattle.journal_explain.specs.Explaining.{HasSeen, HasWatched, SeesWhereLegal, came_in}
-use Rattle.journal_explain.specs.Managers.{since_of}
 use Rattle.journal_explain.specs.Naming.{is_all, names_in}
 use Rattle.journal_explain.specs.Objects.{changes_in, slot_asked, stored_asked}
+use Rattle.journal_explain.specs.Origins.{since_of}
 use Rattle.journal_explain.specs.Serving.{begins_in, begun_in}
 use Rattle.journal_explain.specs.Watching.{since_in}
 
@@ -22,14 +22,14 @@ none_came : (b : Bool) → (if b then no_calls else no_calls) ≡ no_calls
 none_came true = refl
 none_came false = refl
 
-pub watched_first : (life : Life) (w : Watch) → life.history ≡ [] → w.trails.items ≡ [] → w.managers ≡ [] → w.came.items ≡ []
+pub watched_first : (life : Life) (w : Watch) → life.history ≡ [] → w.trails.items ≡ [] → w.origins ≡ [] → w.came.items ≡ []
     → w.beginnings.first ≡ begun_in life.config life.run life.history → w.beginnings.count ≡ begun_in life.config life.run life.history
     → w.beginnings.rows.items ≡ [] → w.object.opens ≡ slot_asked w.asked life.config life.run life.history
     → w.object.stored ≡ stored_asked w.asked life.config life.run (opened life) life.history
     → w.object.slot ≡ slot_asked w.asked life.config life.run life.history → w.object.changes.items ≡ [] → HasWatched life w
-watched_first life w new no_trails unturned none first count unbegun opens stored slot unchanged = record {
-  managers = λ m.
-      ap (λ (rows : List Since). since_in rows m) unturned ∙ sym (ap (λ (h : List Entry). since_of life.config h m) new);
+watched_first life w new no_trails unset none first count unbegun opens stored slot unchanged = record {
+  origins = λ s.
+      ap (λ (rows : List Origin). since_in rows s) unset ∙ sym (ap (λ (h : List Entry). since_of life.config h s) new);
   beginnings = record {
     first = first ∙ ap (begun_in life.config life.run) new;
     count = count;

@@ -1,5 +1,6 @@
 mod Rows
-mod Turned
+mod Settled
+mod Forwarding
 mod Standing
 mod Living
 mod Servable

@@ -3,17 +3,17 @@ use Rattle.std.proofs.Common.{◌≡◌, ℕ, List, ◌++◌, Option, None, Resu
 use Rattle.poa_history.specs.Life.{Life}
 use Rattle.journal_explain.specs.declared.call_name.CallName.{CallName}
 use Rattle.journal_explain.specs.declared.event.Event.{Event}
-use Rattle.journal_explain.specs.declared.since.Since.{Since}
+use Rattle.journal_explain.specs.declared.origin.Origin.{Origin}
 use Rattle.journal_explain.specs.declared.step.Step.{Step}
 use Rattle.journal_explain.specs.declared.tenure.Tenure.{Tenure}
 use Rattle.journal_explain.specs.declared.trail.Trail.{Trail}
 use Rattle.journal_explain.specs.declared.wait.Wait.{Wait}
-use Rattle.journal_explain.specs.Managers.{holder}
+use Rattle.journal_explain.specs.Origins.{holder}
 use Rattle.journal_explain.specs.Serving.{ended_where, serves}
 use Rattle.journal_explain.specs.Stories.{IsNews, step_at, wait_of}
 use Rattle.journal_explain.specs.Watching.{Looks, told_in}
 
-module _ (life : Life) (place : ℕ) (rows : List Since) (old mid new : Trail) (ends : Option Event) (wait : Option Wait) (tenure : Option Tenure)
+module _ (life : Life) (place : ℕ) (rows : List Origin) (old mid new : Trail) (ends : Option Event) (wait : Option Wait) (tenure : Option Tenure)
     (ends_is : ends ≡ ended_where old.server old.active (serves life.config life.run life.history old.server))
     (put : mid.steps.items ≡ old.steps.items ++ step_at place ends None) (name : mid.name ≡ old.name) (call : mid.call ≡ old.call)
     (adapter : mid.adapter ≡ old.adapter) (waited : mid.wait ≡ old.wait) (server : mid.server ≡ old.server)

@@ -27,7 +27,7 @@ use Rattle.journal_explain.specs.declared.came.Came.{Came}
 use Rattle.journal_explain.specs.declared.change.Change.{Change}
 use Rattle.journal_explain.specs.declared.doing.Doing.{Doing}
 use Rattle.journal_explain.specs.declared.event.Event.{Event}
-use Rattle.journal_explain.specs.declared.since.Since.{Since}
+use Rattle.journal_explain.specs.declared.origin.Origin.{Origin}
 use Rattle.journal_explain.specs.declared.object_trail.ObjectTrail.{ObjectTrail}
 use Rattle.journal_explain.specs.declared.step.Step.{Step}
 use Rattle.journal_explain.specs.declared.tenure.Tenure.{Tenure}
@@ -36,16 +36,16 @@ use Rattle.journal_explain.specs.declared.wait.Wait.{Wait}
 use Rattle.journal_explain.specs.declared.watch.Watch.{Watch}
 use Rattle.journal_explain.specs.Explaining.{HasSeen, HasTraced, HasWatched, came_in}
 use Rattle.journal_explain.specs.Adapters.{adapter_at, adapter_for}
-use Rattle.journal_explain.specs.Managers.{held_by, holder, ruled_by, ruler}
+use Rattle.journal_explain.specs.Origins.{held_by, holder, ruled_by, ruler}
 use Rattle.journal_explain.specs.Naming.{asks, is_all, name_of, names_in}
 use Rattle.journal_explain.specs.Objects.{changed_with, changes_in, command_by, doing_of, slot_asked, stored_asked}
 use Rattle.journal_explain.specs.Outcomes.{calls_in, came_with}
 use Rattle.journal_explain.specs.Serving.{begun_for, ended_by, ended_where, served_with, server_in, server_with, serves}
 use Rattle.journal_explain.specs.Stories.{GoesOn, IfArrived, IsNews, IsStory, collected_by, event_of, event_with, step_at, wait_by, wait_of}
-use Rattle.journal_explain.specs.Watching.{Begins, BeginsIf, BeginsOne, Counts, Gets, HasGiven, HasLooked, HasNoted, KnowsManagers, Looks, Notes, Traces, begun_by, handed_to, told_in}
+use Rattle.journal_explain.specs.Watching.{Begins, BeginsIf, BeginsOne, Counts, Gets, HasGiven, HasLooked, HasNoted, KnowsOrigins, Looks, Notes, Traces, begun_by, handed_to, told_in}
 use Rattle.journal_explain.proofs.Begun.{begun_is, counted}
 use Rattle.journal_explain.proofs.Going.{named_still}
-use Rattle.journal_explain.proofs.Turned.{knows_next, told_is}
+use Rattle.journal_explain.proofs.Settled.{knows_next, told_is}
 
 below : (r n : ℕ) → r < n → nat_lt r n ≡ true
 below r n low = lt-ltb r n low
@@ -165,9 +165,9 @@ begun_each past e which olds begun each names same = others past e which olds be
 -- one trail
 module _ (past : Life) (e : Entry) (place : ℕ) (here : place ≡ length past.history) (follows : Follows past e) (filed : Option Filed)
     (handed : (r : ℕ) → handed_to filed r ≡ collected_by past.config past.run (opened past) past.history e r) where
-  -- by the rows of the managers before the entry and behind it, and by the entry that began the activation that serves it
+  -- by the rows of what is set before the entry and behind it, and by the entry that began the activation that serves it
   seen_one : (from : Option ℕ) → from ≡ begun_for past.config past.run past.history (served_with e)
-      → (rows after : List Since) → KnowsManagers past rows → KnowsManagers (with_entry e past) after
+      → (rows after : List Origin) → KnowsOrigins past rows → KnowsOrigins (with_entry e past) after
       → (old noted given new : Trail) → IsBegun past e old → Notes past e place from rows old noted → Gets filed place noted given
       → Looks (with_entry e past) place after given new → HasSeen (with_entry e past) new
   seen_one from from_is rows after knows knows_after old noted given new begun notes gets looks =
@@ -177,7 +177,7 @@ module _ (past : Life) (e : Entry) (place : ℕ) (here : place ≡ length past.h
       let h = past.history in
       let r = old.name.arrival in
       let event = event_of c run h e r in
-      let manager = ruled_by c run h e r in
+      let rule = ruled_by c run h e r in
       let reply = collected_by c run op h e r in
       let ends = ended_by c run h e r in
       let first : noted.name.arrival ≡ r = ap (λ (n : CallName). n.arrival) notes.name in
@@ -190,7 +190,7 @@ module _ (past : Life) (e : Entry) (place : ℕ) (here : place ≡ length past.h
       let ended : ended_where given.server given.active (serves c run (e ∷ h) given.server) ≡ ends =
       ap₂ (λ (s : Option ℕ) (a : Bool). ended_where s a (serves c run (e ∷ h) s)) served active in
       let by_rows : old.steps.items ++ step_at place (event_with c run h e from r) (told_in past rows (ruler c run h e r))
-      ≡ old.steps.items ++ step_at place event manager =
+      ≡ old.steps.items ++ step_at place event rule =
       ap₂ (λ (b : Option ℕ) (m : Option Tenure). old.steps.items ++ step_at place (event_with c run h e b r) m) from_is
       (told_is past rows knows (ruler c run h e r)) in
       let more : List Step = step_at place ends None ++ looks.news in
@@ -209,10 +209,10 @@ module _ (past : Life) (e : Entry) (place : ℕ) (here : place ≡ length past.h
             ∙ (ap (λ (s : List Step). s ++ more) (gets.told
             ∙ ap₂ (λ (s : List Step) (o : Option Event). s ++ step_at place o None) (notes.told follows ∙ by_rows)
             (ap (handed_to filed) first ∙ handed r))
-            ∙ (append_assoc (old.steps.items ++ step_at place event manager) (step_at place reply None) more
-            ∙ (append_assoc old.steps.items (step_at place event manager) (step_at place reply None ++ more)
+            ∙ (append_assoc (old.steps.items ++ step_at place event rule) (step_at place reply None) more
+            ∙ (append_assoc old.steps.items (step_at place event rule) (step_at place reply None ++ more)
             ∙ ap (λ (k : ℕ). old.steps.items
-            ++ (step_at k event manager ++ (step_at k reply None ++ (step_at k ends None ++ looks.news)))) here))));
+            ++ (step_at k event rule ++ (step_at k reply None ++ (step_at k ends None ++ looks.news)))) here))));
       } in
       let story : IsStory c run op (e ∷ h) r new.steps.items =
       subst (λ (b : Bool). IfArrived b ((before : List Step) × IsStory c run op h r before × GoesOn c run op h e r before new.steps.items)
@@ -227,7 +227,7 @@ module _ (past : Life) (e : Entry) (place : ℕ) (here : place ≡ length past.h
       }
 
   seen_each : (from : Option ℕ) → from ≡ begun_for past.config past.run past.history (served_with e)
-      → (rows after : List Since) → KnowsManagers past rows → KnowsManagers (with_entry e past) after
+      → (rows after : List Origin) → KnowsOrigins past rows → KnowsOrigins (with_entry e past) after
       → (olds noted givens news : List Trail) → AllByRecursion (IsBegun past e) olds → AllZip (Notes past e place from rows) olds noted
       → AllZip (Gets filed place) noted givens → AllZip (Looks (with_entry e past) place after) givens news
       → AllByRecursion (HasSeen (with_entry e past)) news
@@ -287,22 +287,22 @@ module _ (past : Life) (e : Entry) (place : ℕ) (here : place ≡ length past.h
       let asked : given.asked ≡ old.asked = gives.asked ∙ notes.asked in
       let same : new.asked ≡ old.asked = looks.asked ∙ asked in
       let from = begun_by old.beginnings (served_with e) in
-      let knows : KnowsManagers (with_entry e past) given.managers =
-      subst (λ (rows : List Since). KnowsManagers (with_entry e past) rows) (sym gives.managers)
-      (knows_next past e place here old.managers noted.managers before.managers notes.managers) in
+      let knows : KnowsOrigins (with_entry e past) given.origins =
+      subst (λ (rows : List Origin). KnowsOrigins (with_entry e past) rows) (sym gives.origins)
+      (knows_next past e place here old.origins noted.origins before.origins notes.origins) in
       record {
-        managers = subst (λ (rows : List Since). KnowsManagers (with_entry e past) rows) (sym looks.managers) knows;
+        origins = subst (λ (rows : List Origin). KnowsOrigins (with_entry e past) rows) (sym looks.origins) knows;
         beginnings =
             counted past e place here old.beginnings new.beginnings before.beginnings
             (subst (λ (b : Beginnings). Counts (with_entry e past) place b new.beginnings) (gives.beginnings ∙ notes.beginnings) looks.beginnings);
         names =
-            named_still (Looks (with_entry e past) place given.managers) (λ o n go. go.name) given.trails.items new.trails.items looks.looks
+            named_still (Looks (with_entry e past) place given.origins) (λ o n go. go.name) given.trails.items new.trails.items looks.looks
             ∙ (named_still (Gets filed place) (λ o n go. go.name) noted.trails.items given.trails.items gives.gets
-            ∙ (named_still (Notes past e place from old.managers) (λ o n go. go.name) notes.begun noted.trails.items notes.notes
+            ∙ (named_still (Notes past e place from old.origins) (λ o n go. go.name) notes.begun noted.trails.items notes.notes
             ∙ (all.names ∙ ap (λ (a : Selection). names_in a (e ∷ past.history)) (sym same))));
         each =
             All-from_recursion (HasSeen (with_entry e past)) new.trails.items
-            (seen_each from (begun_is past old.beginnings before.beginnings (served_with e)) old.managers given.managers before.managers knows notes.begun noted.trails.items given.trails.items new.trails.items
+            (seen_each from (begun_is past old.beginnings before.beginnings (served_with e)) old.origins given.origins before.origins knows notes.begun noted.trails.items given.trails.items new.trails.items
             (recursion_from_All (IsBegun past e) notes.begun all.each) notes.notes gives.gets looks.looks);
         object =
             subst (λ (a : Selection). HasTraced a (with_entry e past) new.object) (sym same)

@@ -27,7 +27,7 @@ use Rattle.journal_explain.specs.Objects.{changes_in, slot_asked, stored_asked}
 use Rattle.journal_explain.specs.Outcomes.{calls_in}
 use Rattle.journal_explain.specs.Serving.{server_in}
 use Rattle.journal_explain.specs.Stories.{IsStory, wait_of}
-use Rattle.journal_explain.specs.Watching.{KnowsBeginnings, KnowsManagers}
+use Rattle.journal_explain.specs.Watching.{KnowsBeginnings, KnowsOrigins}
 
 -- what came of all calls, where that is asked
 abbrev pub came_in : Selection → Config → ℕ → List Entry → List Came
@@ -49,10 +49,10 @@ pub record HasTraced (which : Selection) (life : Life) (o : ObjectTrail) : Type 
   pub slot : o.slot ≡ slot_asked which life.config life.run life.history
   pub changes : o.changes.items ≡ changes_in which life.config life.run (opened life) life.history
 
--- so do the trails of all calls that are asked for, what came of all, since when the managers are in their states, and with which
+-- so do the trails of all calls that are asked for, what came of all, since when all is set that commands set, and with which
 -- entries the activations began
 pub record HasWatched (life : Life) (w : Watch) : Type 0 where
-  pub managers : KnowsManagers life w.managers
+  pub origins : KnowsOrigins life w.origins
   pub beginnings : KnowsBeginnings life w.beginnings
   pub names : map (λ t. t.name) w.trails.items ≡ names_in w.asked life.history
   pub each : All (HasSeen life) w.trails.items

@@ -1,5 +1,5 @@
 pub mod Rows
-pub mod Managers
+pub mod Origins
 pub mod Adapters
 pub mod Serving
 pub mod Stories

@@ -20,7 +20,7 @@ use Rattle.journal_explain.specs.declared.step.Step.{Step}
 use Rattle.journal_explain.specs.declared.tenure.Tenure.{Tenure}
 use Rattle.journal_explain.specs.declared.wait.Wait.{Wait}
 use Rattle.journal_explain.specs.declared.wait.Wait.TheVariants.{Worker, Held}
-use Rattle.journal_explain.specs.Managers.{held_by, ruled_by}
+use Rattle.journal_explain.specs.Origins.{held_by, ruled_by}
 use Rattle.journal_explain.specs.Rows.{row_of}
 use Rattle.journal_explain.specs.Serving.{begun_for, ended_by, servant_brought, served_with, service_by, serving_by}
 
@@ -66,19 +66,19 @@ abbrev pub collected_by : Config → ℕ → Stored → List Entry → Entry →
 collected_by c run opened past (Collect conn a) r = if a == r then collected (reply_of c run opened past a) else None
 collected_by c run opened past e r = None
 
--- a step with the entry at this place, by the state of this manager
+-- a step with the entry at this place, which rests on this
 abbrev pub step_at : ℕ → Option Event → Option Tenure → List Step
-step_at place None manager = []
-step_at place (Some told) manager = record { entry = place; event = told; manager = manager } ∷ []
+step_at place None tenure = []
+step_at place (Some told) tenure = record { entry = place; event = told; tenure = tenure } ∷ []
 
 -- it waits for something else than before the entry
 abbrev pub waits_at : ℕ → Option Wait → Option Tenure → List Step
-waits_at place None manager = []
-waits_at place (Some wait) manager = record { entry = place; event = event.Waits wait; manager = manager } ∷ []
+waits_at place None tenure = []
+waits_at place (Some wait) tenure = record { entry = place; event = event.Waits wait; tenure = tenure } ∷ []
 
 abbrev pub IsNews : ℕ → Option Wait → Option Wait → Option Tenure → List Step → Type 0
-IsNews place old new manager steps =
-    ((new ≡ old) × (steps ≡ [])) ⊎ ((new ≡ old → ⊥) × (steps ≡ waits_at place new manager))
+IsNews place old new tenure steps =
+    ((new ≡ old) × (steps ≡ [])) ⊎ ((new ≡ old → ⊥) × (steps ≡ waits_at place new tenure))
 
 -- one entry more
 pub record GoesOn (c : Config) (run : ℕ) (opened : Stored) (past : List Entry) (e : Entry) (r : ℕ) (before after : List Step) : Type 0 where

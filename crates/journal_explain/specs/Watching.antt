@@ -2,18 +2,13 @@
 use Rattle.std.specs.Prelude.{◌≡◌, ℕ, ◌==◌, nat_lt, length, Bool, true, false, if◌then◌else◌, List, [], ◌∷◌, ◌++◌, find, Option, Some, None, option_map}
 use Rattle.std.specs.List.{AllZip}
 use Rattle.poa_base.specs.declared.Call.{Call}
-use Rattle.poa_base.specs.declared.Command.{Command}
-use Rattle.poa_base.specs.declared.Command.TheVariants.{Manager}
-use Rattle.poa_base.specs.declared.Config.{Config}
 use Rattle.poa_base.specs.declared.Entry.{Entry}
 use Rattle.poa_base.specs.declared.Entry.TheVariants.{Arrive, Collect}
 use Rattle.history_standing.specs.declared.activation.Activation.{Activation}
 use Rattle.history_standing.specs.Arrivals.{arrivals}
 use Rattle.history_standing.specs.Keys.{key_in}
-use Rattle.history_standing.specs.Logs.{manager_state}
 use Rattle.history_standing.specs.Opening.{opening}
 use Rattle.history_standing.specs.Standings.{is_active}
-use Rattle.history_standing.specs.Templates.{manager_number}
 use Rattle.poa_history.specs.Life.{Life, opened}
 use Rattle.journal_audit.specs.Judging.{Follows}
 use Rattle.core_outboxes.specs.declared.filed.Filed.{Filed}
@@ -21,6 +16,8 @@ use Rattle.journal_explain.specs.declared.selection.Selection.{Selection}
 use Rattle.journal_explain.specs.declared.call_name.CallName.{CallName}
 use Rattle.journal_explain.specs.declared.adapter.Adapter.{Adapter}
 use Rattle.journal_explain.specs.declared.beginnings.Beginnings.{Beginnings}
+use Rattle.journal_explain.specs.declared.origin.Origin.{Origin}
+use Rattle.journal_explain.specs.declared.setting.Setting.{Setting}
 use Rattle.journal_explain.specs.declared.since.Since.{Since}
 use Rattle.journal_explain.specs.declared.step.Step.{Step}
 use Rattle.journal_explain.specs.declared.tenure.Tenure.{Tenure}
@@ -31,41 +28,38 @@ use Rattle.journal_explain.specs.Naming.{asks, is_all, name_of}
 use Rattle.journal_explain.specs.declared.doing.Doing.{Doing}
 use Rattle.journal_explain.specs.declared.object_trail.ObjectTrail.{ObjectTrail}
 use Rattle.journal_explain.specs.Adapters.{adapter_at}
-use Rattle.journal_explain.specs.Managers.{holder, ruler, since_of, since_with, tenure_by, turns}
 use Rattle.journal_explain.specs.Objects.{changed_with, command_by, slot_asked, stored_asked}
+use Rattle.journal_explain.specs.Origins.{holder, ruler, same_setting, since_of, since_with, tenure_by}
 use Rattle.journal_explain.specs.Outcomes.{came_with}
 use Rattle.journal_explain.specs.Serving.{beginning_at, begins_in, begun_in, ended_where, served_with, server_in, server_with, serves}
 use Rattle.journal_explain.specs.Stories.{IsNews, collected, event_with, step_at, wait_of}
 use Rattle.journal_explain.specs.declared.event.Event.{Event}
 
--- since when a manager is in its state, by the rows of those that came to another
-abbrev pub since_in : List Since → ℕ → Option Since
-since_in rows m = find (λ s. s.manager == m) rows
+-- since when something is set, by the rows of what commands have set
+abbrev pub origin_in : List Origin → Setting → Option Origin
+origin_in rows s = find (λ o. same_setting o.setting s) rows
 
--- a manager has this row now, and every other what it had
-abbrev pub IsPut : Since → List Since → List Since → Type 0
-IsPut row old new = (m : ℕ) → since_in new m ≡ (if row.manager == m then Some row else since_in old m)
+abbrev pub since_in : List Origin → Setting → Option Since
+since_in rows s = option_map (λ o. o.since) (origin_in rows s)
+
+-- a setting has this row now, and every other what it had
+abbrev pub IsPut : Origin → List Origin → List Origin → Type 0
+IsPut row old new = (s : Setting) → origin_in new s ≡ (if same_setting row.setting s then Some row else origin_in old s)
 
 -- they say what the history says
-abbrev pub KnowsManagers : Life → List Since → Type 0
-KnowsManagers life rows = (m : ℕ) → since_in rows m ≡ since_of life.config life.history m
-
--- the manager that a command, done next, brings to another state
-abbrev pub turned_by : Config → List Entry → Option Command → Option ℕ
-turned_by c past (Some (Manager name order)) =
-    elim (manager_number c name) [ Some k ↦ (if turns (manager_state c past k) (Some order) then Some k else None) | None ↦ None ]
-turned_by c past command = None
+abbrev pub KnowsOrigins : Life → List Origin → Type 0
+KnowsOrigins life rows = (s : Setting) → since_in rows s ≡ since_of life.config life.history s
 
 -- the next entry of a run, at this place
-abbrev pub Turns : Life → Entry → ℕ → List Since → List Since → Type 0
-Turns past e place old new = (m : ℕ) → since_in new m ≡ since_with past.config past.history e place m (since_in old m)
+abbrev pub Settles : Life → Entry → ℕ → List Origin → List Origin → Type 0
+Settles past e place old new = (s : Setting) → since_in new s ≡ since_with past.config past.history e place s (since_in old s)
 
--- a manager after a history, by the rows
-abbrev pub tenure_in : Life → List Since → ℕ → Tenure
-tenure_in life rows m = tenure_by life.config life.history m (since_in rows m)
+-- what is set after a history, by the rows
+abbrev pub tenure_in : Life → List Origin → Setting → Tenure
+tenure_in life rows s = tenure_by life.config life.history s (since_in rows s)
 
-abbrev pub told_in : Life → List Since → Option ℕ → Option Tenure
-told_in life rows manager = option_map (tenure_in life rows) manager
+abbrev pub told_in : Life → List Origin → Option Setting → Option Tenure
+told_in life rows setting = option_map (tenure_in life rows) setting
 
 -- with which entry an activation began, by the rows of those that began
 abbrev pub begun_by : Beginnings → Option ℕ → Option ℕ
@@ -122,9 +116,9 @@ pub record IsServed (past : Life) (e : Entry) (old new : Trail) : Type 0 where
   pub server : new.server ≡ server_with e old.name.arrival old.server
   pub active : new.active ≡ serves past.config past.run past.history new.server
 
--- what the next entry of a run, at this place, is to the call, by the rows of the managers; where it has it served, this entry
+-- what the next entry of a run, at this place, is to the call, by the rows of what is set; where it has it served, this entry
 -- began the activation that serves it
-pub record Notes (past : Life) (e : Entry) (place : ℕ) (begun : Option ℕ) (rows : List Since) (old new : Trail) : Type 0 where
+pub record Notes (past : Life) (e : Entry) (place : ℕ) (begun : Option ℕ) (rows : List Origin) (old new : Trail) : Type 0 where
   pub name : new.name ≡ old.name
   pub call : new.call ≡ old.call
   pub adapter : new.adapter ≡ old.adapter
@@ -156,8 +150,8 @@ pub record Gets (given : Option Filed) (place : ℕ) (old new : Trail) : Type 0 
   pub active : new.active ≡ old.active
 
 -- that the activation ended which serves the call, and what the call waits for, in a run behind the entry at this place, by the
--- rows of the managers
-pub record Looks (life : Life) (place : ℕ) (rows : List Since) (old new : Trail) : Type 0 where
+-- rows of what is set
+pub record Looks (life : Life) (place : ℕ) (rows : List Origin) (old new : Trail) : Type 0 where
   pub name : new.name ≡ old.name
   pub call : new.call ≡ old.call
   pub adapter : new.adapter ≡ old.adapter
@@ -186,8 +180,8 @@ pub record HasNoted (past : Life) (e : Entry) (place : ℕ) (old new : Watch) : 
   pub asked : new.asked ≡ old.asked
   pub begun : List Trail
   pub begins : Begins old.asked past place e old.trails.items begun
-  pub notes : AllZip (Notes past e place (begun_by old.beginnings (served_with e)) old.managers) begun new.trails.items
-  pub managers : Turns past e place old.managers new.managers
+  pub notes : AllZip (Notes past e place (begun_by old.beginnings (served_with e)) old.origins) begun new.trails.items
+  pub origins : Settles past e place old.origins new.origins
   pub beginnings : new.beginnings ≡ old.beginnings
   pub object : new.object ≡ old.object
   pub came : new.came.items ≡ came_next old.asked past e place old.came.items
@@ -196,7 +190,7 @@ pub record HasNoted (past : Life) (e : Entry) (place : ℕ) (old new : Watch) : 
 pub record HasGiven (given : Option Filed) (place : ℕ) (old new : Watch) : Type 0 where
   pub asked : new.asked ≡ old.asked
   pub gets : AllZip (Gets given place) old.trails.items new.trails.items
-  pub managers : new.managers ≡ old.managers
+  pub origins : new.origins ≡ old.origins
   pub beginnings : new.beginnings ≡ old.beginnings
   pub object : new.object ≡ old.object
   pub came : new.came.items ≡ old.came.items
@@ -205,8 +199,8 @@ pub record HasGiven (given : Option Filed) (place : ℕ) (old new : Watch) : Typ
 -- of the object
 pub record HasLooked (life : Life) (place : ℕ) (doing : Doing) (old new : Watch) : Type 0 where
   pub asked : new.asked ≡ old.asked
-  pub looks : AllZip (Looks life place old.managers) old.trails.items new.trails.items
-  pub managers : new.managers ≡ old.managers
+  pub looks : AllZip (Looks life place old.origins) old.trails.items new.trails.items
+  pub origins : new.origins ≡ old.origins
   pub beginnings : Counts life place old.beginnings new.beginnings
   pub object : Traces old.asked life place doing old.object new.object
   pub came : new.came.items ≡ old.came.items

@@ -7,6 +7,6 @@ use crate::tenure::Tenure;
 pub struct Step {
     pub entry: u64,
     pub event: Event,
-    /// The manager by whose state it is held or admitted, where it is by one's.
-    pub manager: Option<Tenure>,
+    /// On what it rests that it is held or admitted, where that is something that can be set.
+    pub tenure: Option<Tenure>,
 }

@@ -1,13 +1,13 @@
-//! A manager, as it stood.
+//! What was set, as it stood.
+use crate::basis::Basis;
 use crate::since::Since;
-use poa_base::{Command, ManagerState};
+use poa_base::Command;
 
-/// The manager of this number, as it stood: 0 is `root`, and the configured ones follow.
+/// On what it rests that a call is held or decided, and since when.
 #[derive(Drop)]
 pub struct Tenure {
-    pub manager: u32,
-    pub state: ManagerState,
-    /// The entry that brought it to that state; none where it has been in it since the run began.
+    pub basis: Basis,
+    /// The entry that set it last; none where it is as it was when the run began.
     pub since: Option<Since>,
     /// The administrator's command that this entry admits.
     pub command: Option<Command>,

@@ -51,15 +51,15 @@ impl Trail {
         }
     }
 
-    /// Notes what the entry at this place was to the call, by the state of this manager.
+    /// Notes what the entry at this place was to the call, which rests on this.
     pub(crate) fn note(
         &mut self,
         entry: u64,
         told: Option<Event>,
-        manager: Option<Tenure>,
+        tenure: Option<Tenure>,
     ) -> Result<(), WantMemory>
         ensures steps { OnOk result
-            (self.new.steps.items ≡ self.old.steps.items ++ step_at entry told manager) }
+            (self.new.steps.items ≡ self.old.steps.items ++ step_at entry told tenure) }
         ensures name { self.new.name ≡ self.old.name }
         ensures call { self.new.call ≡ self.old.call }
         ensures adapter { self.new.adapter ≡ self.old.adapter }
@@ -71,7 +71,7 @@ impl Trail {
             self.steps.push(Step {
                 entry,
                 event,
-                manager,
+                tenure,
             })?;
         }
         Ok(())
@@ -85,16 +85,16 @@ impl Trail {
         self.note(entry, told, None)
     }
 
-    /// Notes what the call waits for behind the entry at this place, by the state of this manager, where that is another thing
-    /// than before.
+    /// Notes what the call waits for behind the entry at this place, which rests on this, where that is another thing than
+    /// before.
     pub(crate) fn wait_for(
         &mut self,
         entry: u64,
         wait: Option<Wait>,
-        manager: Option<Tenure>,
+        tenure: Option<Tenure>,
     ) -> Result<(), WantMemory>
         ensures steps { OnOk result ((news : List StepOf)
-            × IsNews entry self.old.wait wait manager news
+            × IsNews entry self.old.wait wait tenure news
             × (self.new.steps.items ≡ self.old.steps.items ++ news)) }
         ensures name { self.new.name ≡ self.old.name }
         ensures call { self.new.call ≡ self.old.call }
@@ -108,7 +108,7 @@ impl Trail {
         }
         self.wait = wait;
         match wait {
-            Some(wait) => self.note(entry, Some(Event::Waits(wait)), manager),
+            Some(wait) => self.note(entry, Some(Event::Waits(wait)), tenure),
             None => Ok(()),
         }
     }

@@ -6,8 +6,8 @@ ghost use Rattle.journal_explain.specs.Watching.{Begins, Gets, IsServed, Looks, 
 use crate::adapter::adapter_at;
 use crate::call_name::CallName;
 use crate::facing::wait_of;
-use crate::managers::Managers;
 use crate::next::Next;
+use crate::origins::Origins;
 use crate::ruling::{holder, ruler};
 use crate::selection::Selection;
 use crate::server::{ended, server_with, serves};
@@ -46,15 +46,15 @@ pub(crate) fn note_each(
     alloc: Global,
     run: &Run,
     next: &Next<'_>,
-    managers: &Managers,
+    origins: &Origins,
     trails: &mut Vec<Trail>,
 ) -> Result<(), WantMemory>
     ensures { OnOk result (AllZip
-        (Notes run.now next.now.entry.now next.now.place next.now.begun managers.now)
+        (Notes run.now next.now.entry.now next.now.place next.now.begun origins.now)
         trails.old.items trails.new.items) }
 {
     for trail in trails.iter_mut() {
-        note(alloc, run, next, managers, trail)?;
+        note(alloc, run, next, origins, trail)?;
     }
     Ok(())
 }
@@ -63,16 +63,16 @@ fn note(
     alloc: Global,
     run: &Run,
     next: &Next<'_>,
-    managers: &Managers,
+    origins: &Origins,
     trail: &mut Trail,
 ) -> Result<(), WantMemory>
     ensures { OnOk result
-        (Notes run.now next.now.entry.now next.now.place next.now.begun managers.now
+        (Notes run.now next.now.entry.now next.now.place next.now.begun origins.now
         trail.old trail.new) }
 {
     let told = event_of(alloc, run, next, trail.name.arrival)?;
-    let manager = ruler(alloc, run, next.entry, trail.name.arrival)?;
-    let tenure = managers.told(run, manager)?;
+    let setting = ruler(alloc, run, next.entry, trail.name.arrival)?;
+    let tenure = origins.told(run, setting)?;
     serve(run, next.entry, trail);
     trail.note(next.place, told, tenure)
 }
@@ -106,14 +106,14 @@ pub(crate) fn look_at_each(
     alloc: Global,
     run: &Run,
     place: u64,
-    managers: &Managers,
+    origins: &Origins,
     trails: &mut Vec<Trail>,
 ) -> Result<(), WantMemory>
     ensures { OnOk result
-        (AllZip (Looks run.now place managers.now) trails.old.items trails.new.items) }
+        (AllZip (Looks run.now place origins.now) trails.old.items trails.new.items) }
 {
     for trail in trails.iter_mut() {
-        look(alloc, run, place, managers, trail)?;
+        look(alloc, run, place, origins, trail)?;
     }
     Ok(())
 }
@@ -122,14 +122,14 @@ fn look(
     alloc: Global,
     run: &Run,
     place: u64,
-    managers: &Managers,
+    origins: &Origins,
     trail: &mut Trail,
 ) -> Result<(), WantMemory>
-    ensures { OnOk result (Looks run.now place managers.now trail.old trail.new) }
+    ensures { OnOk result (Looks run.now place origins.now trail.old trail.new) }
 {
     let ends = ended(run, trail.server, trail.active);
     trail.note(place, ends, None)?;
     let wait = wait_of(alloc, run, trail.name.arrival)?;
-    let tenure = managers.told(run, holder(wait))?;
+    let tenure = origins.told(run, holder(wait))?;
     trail.wait_for(place, wait, tenure)
 }

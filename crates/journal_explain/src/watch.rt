@@ -6,9 +6,9 @@ ghost use Rattle.journal_explain.specs.Watching.{HasGiven, HasLooked, HasNoted};
 use crate::beginnings::Beginnings;
 use crate::came::{Came, note_came};
 use crate::doing::Doing;
-use crate::managers::Managers;
 use crate::next::Next;
 use crate::object_trail::ObjectTrail;
+use crate::origins::Origins;
 use crate::selection::Selection;
 use crate::server::served_with;
 use crate::trail::Trail;
@@ -18,15 +18,15 @@ use core_run::Run;
 use poa_base::{Entry, WantMemory};
 use std::alloc::Global;
 
-/// What is watched of calls: what happens to those that are asked for by themselves, since when the managers are in their states,
+/// What is watched of calls: what happens to those that are asked for by themselves, since when all is set that commands set,
 /// with which entries the activations began, what stands of an object, and what came of all, where that is asked.
 #[derive(Drop)]
 pub struct Watch {
     pub asked: Selection,
     /// The calls that are asked for by themselves, in the order of their arriving.
     pub trails: Vec<Trail>,
-    /// Since when the managers are in their states.
-    pub managers: Managers,
+    /// Since when all is set that commands set.
+    pub origins: Origins,
     /// With which entries the activations began.
     pub beginnings: Beginnings,
     /// The object that is asked for.
@@ -48,7 +48,7 @@ impl Watch {
         Ok(Watch {
             asked,
             trails: Vec::new(alloc),
-            managers: Managers::new(alloc),
+            origins: Origins::new(alloc),
             beginnings,
             object,
             came: Vec::new(alloc),
@@ -72,8 +72,8 @@ impl Watch {
             begun,
         };
         begin(alloc, &self.asked, run, place, entry, &mut self.trails)?;
-        note_each(alloc, run, &next, &self.managers, &mut self.trails)?;
-        self.managers.note(run, entry, place)?;
+        note_each(alloc, run, &next, &self.origins, &mut self.trails)?;
+        self.origins.note(run, entry, place)?;
         if self.asked.is_all() {
             note_came(alloc, run, entry, place, &mut self.came)?;
         }
@@ -98,7 +98,7 @@ impl Watch {
     ) -> Result<(), WantMemory>
         ensures { OnOk result (HasLooked run.now place doing self.old self.new) }
     {
-        look_at_each(alloc, run, place, &self.managers, &mut self.trails)?;
+        look_at_each(alloc, run, place, &self.origins, &mut self.trails)?;
         self.beginnings.note(run, place)?;
         self.object.note(run, &self.asked, place, doing)
     }

@@ -5,7 +5,7 @@ pub mod Calls
 pub mod Servants
 pub mod Verdicts
 pub mod Replies
-pub mod Managers
+pub mod Tenures
 pub mod Adapters
 pub mod Story
 pub mod Table

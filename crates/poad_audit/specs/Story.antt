@@ -18,9 +18,9 @@ use Rattle.journal_explain.specs.declared.Wait.{Wait}
 use Rattle.journal_explain.specs.declared.Wait.TheVariants.{Worker, Held}
 use Rattle.poad_audit.specs.Adapters.{adapter_text}
 use Rattle.poad_audit.specs.Calls.{call_text}
-use Rattle.poad_audit.specs.Managers.{held_since, ruler_text}
 use Rattle.poad_audit.specs.Replies.{collected_text}
 use Rattle.poad_audit.specs.Servants.{brought_text}
+use Rattle.poad_audit.specs.Tenures.{held_since, ruler_text}
 use Rattle.poad_audit.specs.Verdicts.{decided_text}
 
 abbrev pub row_text : Row → List ℕ
@@ -69,9 +69,9 @@ abbrev pub wait_text : Wait → List ℕ
 wait_text Worker = codes "waits for a worker"
 wait_text (Held h) = hold_text h
 
--- and since when the manager that holds it does so
+-- and since when that holds it, where it can be set
 abbrev pub waits_text : Wait → Option Tenure → List ℕ
-waits_text wait manager = wait_text wait ++ held_since manager
+waits_text wait tenure = wait_text wait ++ held_since tenure
 
 abbrev pub attempt_text : Attempt → List ℕ
 attempt_text (attempt.Yes n) = codes "the adapter activator made adapter " ++ decimal n
@@ -84,27 +84,27 @@ abbrev pub admitted_head : ℕ → List ℕ
 admitted_head w = codes "admitted by worker " ++ (decimal w ++ codes ": ")
 
 abbrev pub admitted_text : ℕ → Option Row → Option Tenure → Verdict → Option Service → List ℕ
-admitted_text w row manager verdict service =
-    admitted_head w ++ (reason_text row ++ (ruler_text manager ++ (codes "; " ++ decided_text verdict service)))
+admitted_text w row tenure verdict service =
+    admitted_head w ++ (reason_text row ++ (ruler_text tenure ++ (codes "; " ++ decided_text verdict service)))
 
 -- the activation that serves it isn't active any more
 abbrev pub ends_text : ℕ → List ℕ
 ends_text n = codes "activation " ++ (decimal n ++ codes " is ending")
 
--- by the state of this manager
+-- by what it is held or admitted, where that can be set
 abbrev pub event_text : Event → Option Tenure → List ℕ
-event_text event.Arrived manager = codes "arrived"
-event_text (event.Waits wait) manager = waits_text wait manager
-event_text (event.Admitted w row verdict service) manager = admitted_text w row manager verdict service
-event_text (event.Tried answer) manager = attempt_text answer
-event_text (event.Incarnated servant) manager = brought_text servant
-event_text event.Ran manager = codes "its servant ran"
-event_text event.Ended manager = codes "the request ended"
-event_text (event.Collected reply) manager = collected_text reply
-event_text (event.Ends n) manager = ends_text n
+event_text event.Arrived tenure = codes "arrived"
+event_text (event.Waits wait) tenure = waits_text wait tenure
+event_text (event.Admitted w row verdict service) tenure = admitted_text w row tenure verdict service
+event_text (event.Tried answer) tenure = attempt_text answer
+event_text (event.Incarnated servant) tenure = brought_text servant
+event_text event.Ran tenure = codes "its servant ran"
+event_text event.Ended tenure = codes "the request ended"
+event_text (event.Collected reply) tenure = collected_text reply
+event_text (event.Ends n) tenure = ends_text n
 
 abbrev pub step_line : Step → List ℕ
-step_line s = codes "entry " ++ (decimal s.entry ++ (codes " " ++ (event_text s.event s.manager ++ codes "\n")))
+step_line s = codes "entry " ++ (decimal s.entry ++ (codes " " ++ (event_text s.event s.tenure ++ codes "\n")))
 
 -- the text of each, one behind the other
 abbrev pub lines_by : {A : Type 0} → (A → List ℕ) → List A → List ℕ

@@ -9,7 +9,6 @@ mod auditing;
 mod call_text;
 mod explaining;
 mod linking;
-mod manager_text;
 mod object_text;
 mod picture;
 mod printing;
@@ -20,6 +19,7 @@ mod stored_text;
 mod story;
 mod table;
 mod tally;
+mod tenure_text;
 mod verdict_text;
 
 pub use auditing::audit_files;

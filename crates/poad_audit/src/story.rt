@@ -4,10 +4,10 @@ ghost use Rattle.poad_audit.specs.Story as printed;
 
 use crate::adapter_text::put_adapter;
 use crate::call_text::put_call;
-use crate::manager_text::{held_since, ruler_text};
 use crate::reply_text::collected_text;
 use crate::row_text::reason_text;
 use crate::servant_text::brought_text;
+use crate::tenure_text::{held_since, ruler_text};
 use crate::verdict_text::{decided_text, fixed};
 use held_queue::Hold;
 use journal_explain::{CallName, Event, Row, Service, Step, Tenure, Trail, Wait};
@@ -82,7 +82,7 @@ fn step_line(alloc: Global, step: &Step) -> Result<Bytes, WantMemory>
     ensures { IfOk result (λ line. line ≡ printed.step_line step.now) }
 {
     let entry = step.entry;
-    let text = event_text(alloc, &step.event, step.manager.as_ref())?;
+    let text = event_text(alloc, &step.event, step.tenure.as_ref())?;
     let head = format!(in alloc; "entry {entry} ")?;
     let mut out = head.into_bytes();
     out.extend_from_slice(text.as_slice())?;
@@ -90,18 +90,18 @@ fn step_line(alloc: Global, step: &Step) -> Result<Bytes, WantMemory>
     Ok(Bytes::from_vec(out))
 }
 
-fn event_text(alloc: Global, event: &Event, manager: Option<&Tenure>) -> Result<Bytes, WantMemory>
-    ensures { IfOk result (λ text. text ≡ printed.event_text event.now (option_copied manager.entry)) }
+fn event_text(alloc: Global, event: &Event, tenure: Option<&Tenure>) -> Result<Bytes, WantMemory>
+    ensures { IfOk result (λ text. text ≡ printed.event_text event.now (option_copied tenure.entry)) }
 {
     match event {
         Event::Arrived => fixed(alloc, "arrived"),
-        Event::Waits(wait) => waits_text(alloc, *wait, manager),
+        Event::Waits(wait) => waits_text(alloc, *wait, tenure),
         Event::Admitted {
             worker,
             row,
             verdict,
             service,
-        } => admitted_text(alloc, *worker, *row, manager, verdict, service.as_ref()),
+        } => admitted_text(alloc, *worker, *row, tenure, verdict, service.as_ref()),
         Event::Tried(answer) => attempt_text(alloc, *answer),
         Event::Incarnated { servant } => brought_text(alloc, servant.as_ref()),
         Event::Ran => fixed(alloc, "its servant ran"),
@@ -115,16 +115,16 @@ fn admitted_text(
     alloc: Global,
     worker: u32,
     row: Option<Row>,
-    manager: Option<&Tenure>,
+    tenure: Option<&Tenure>,
     verdict: &Verdict,
     service: Option<&Service>,
 ) -> Result<Bytes, WantMemory>
     ensures { IfOk result (λ text. text
-        ≡ printed.admitted_text worker row (option_copied manager.entry) verdict.now
+        ≡ printed.admitted_text worker row (option_copied tenure.entry) verdict.now
         (option_copied service.entry)) }
 {
     let reason = fixed(alloc, reason_text(row))?;
-    let ruler = ruler_text(alloc, manager)?;
+    let ruler = ruler_text(alloc, tenure)?;
     let decided = decided_text(alloc, verdict, service)?;
     let mut out = admitted_head(alloc, worker)?;
     out.extend_from_slice(reason.as_slice())?;
@@ -149,12 +149,12 @@ fn ends_text(alloc: Global, number: u32) -> Result<Bytes, WantMemory>
     Ok(Bytes::from_vec(text.into_bytes()))
 }
 
-/// What a call waits for, and since when the manager that holds it does so.
-fn waits_text(alloc: Global, wait: Wait, manager: Option<&Tenure>) -> Result<Bytes, WantMemory>
-    ensures { IfOk result (λ text. text ≡ printed.waits_text wait (option_copied manager.entry)) }
+/// What a call waits for, and since when that holds it, where it can be set.
+fn waits_text(alloc: Global, wait: Wait, tenure: Option<&Tenure>) -> Result<Bytes, WantMemory>
+    ensures { IfOk result (λ text. text ≡ printed.waits_text wait (option_copied tenure.entry)) }
 {
     let held = wait_text(alloc, wait)?;
-    let since = held_since(alloc, manager)?;
+    let since = held_since(alloc, tenure)?;
     let mut out = Vec::new(alloc);
     out.extend_from_slice(held.as_slice())?;
     out.extend_from_slice(since.as_slice())?;

@@ -6,7 +6,7 @@ use Rattle.journal_explain.proofs.trails.look.Goals as goal
 pub returns : goal.returns
 returns c =
     let life = c.args.run.now in
-    let rows = c.args.managers.now in
+    let rows = c.args.origins.now in
     let noted = c.in_ok-note.ensures in
     let after = c.wait_for.ensures in
     looked life c.args.place rows c.args.trail.now c.note.new.self c.wait_for.new.self c.ended-ends.result c.in_ok-wait.wait

@@ -3,4 +3,4 @@ use Rattle.journal_explain.proofs.Going.{GoneTo}
 use Rattle.journal_explain.proofs.trails.note_each.Given as goal
 
 abbrev pub invariant-loop-trail : goal.invariant-loop-trail
-invariant-loop-trail l = GoneTo (Notes l.run l.next.entry.now l.next.place l.next.begun l.managers) l.trail-index l.fn.trails.items l.trail-items
+invariant-loop-trail l = GoneTo (Notes l.run l.next.entry.now l.next.place l.next.begun l.origins) l.trail-index l.fn.trails.items l.trail-items

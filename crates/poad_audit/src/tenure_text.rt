@@ -1,29 +1,29 @@
-//! What is printed of the manager by whose state a call is held or admitted.
+//! What is printed of that by which a call is held or admitted, where it can be set.
 ghost use Rattle.std.specs.Prelude.{◌≡◌, IfOk, Some, option_copied};
-ghost use Rattle.poad_audit.specs.Managers as printed;
+ghost use Rattle.poad_audit.specs.Tenures as printed;
 
 use crate::verdict_text::fixed;
 use admin_line::command_text;
-use journal_explain::{Since, Tenure};
+use journal_explain::{Basis, Since, Tenure};
 use poa_base::{Bytes, Command, ManagerState, WantMemory};
 use std::alloc::Global;
 
-/// Behind the manager that holds a call: since when.
-pub(crate) fn held_since(alloc: Global, manager: Option<&Tenure>) -> Result<Bytes, WantMemory>
-    ensures { IfOk result (λ text. text ≡ printed.held_since (option_copied manager.entry)) }
+/// Behind what holds a call: since when.
+pub(crate) fn held_since(alloc: Global, tenure: Option<&Tenure>) -> Result<Bytes, WantMemory>
+    ensures { IfOk result (λ text. text ≡ printed.held_since (option_copied tenure.entry)) }
 {
-    match manager {
-        Some(manager) => since_text(alloc, manager.since, manager.command.as_ref()),
+    match tenure {
+        Some(tenure) => since_text(alloc, tenure.since, tenure.command.as_ref()),
         None => Ok(Bytes::new(alloc)),
     }
 }
 
-/// Behind the words of the row that admits a call: the manager, its state and since when it is in it.
-pub(crate) fn ruler_text(alloc: Global, manager: Option<&Tenure>) -> Result<Bytes, WantMemory>
-    ensures { IfOk result (λ text. text ≡ printed.ruler_text (option_copied manager.entry)) }
+/// Behind the words of the row that admits a call: by what it applies, and since when that is so.
+pub(crate) fn ruler_text(alloc: Global, tenure: Option<&Tenure>) -> Result<Bytes, WantMemory>
+    ensures { IfOk result (λ text. text ≡ printed.ruler_text (option_copied tenure.entry)) }
 {
-    match manager {
-        Some(manager) => tenure_text(alloc, manager),
+    match tenure {
+        Some(tenure) => tenure_text(alloc, tenure),
         None => Ok(Bytes::new(alloc)),
     }
 }
@@ -31,18 +31,30 @@ pub(crate) fn ruler_text(alloc: Global, manager: Option<&Tenure>) -> Result<Byte
 fn tenure_text(alloc: Global, tenure: &Tenure) -> Result<Bytes, WantMemory>
     ensures { IfOk result (λ text. text ≡ printed.ruler_text (Some tenure.now)) }
 {
+    let basis = basis_text(alloc, tenure.basis)?;
     let since = since_text(alloc, tenure.since, tenure.command.as_ref())?;
-    let mut out = state_line(alloc, tenure.manager, tenure.state)?;
+    let mut out = Vec::new(alloc);
+    out.extend_from_slice(basis.as_slice())?;
     out.extend_from_slice(since.as_slice())?;
     Ok(Bytes::from_vec(out))
 }
 
-fn state_line(alloc: Global, manager: u32, state: ManagerState) -> Result<Vec<u8>, WantMemory>
-    ensures { IfOk result (λ out. out.items ≡ printed.state_line manager state) }
+/// A manager and its state; of a default servant and of an endpoint that it is set.
+fn basis_text(alloc: Global, basis: Basis) -> Result<Bytes, WantMemory>
+    ensures { IfOk result (λ text. text ≡ printed.basis_text basis) }
+{
+    match basis {
+        Basis::Manager { manager, state } => state_line(alloc, manager, state),
+        Basis::DefaultServant | Basis::Endpoint => fixed(alloc, ": set"),
+    }
+}
+
+fn state_line(alloc: Global, manager: u32, state: ManagerState) -> Result<Bytes, WantMemory>
+    ensures { IfOk result (λ text. text ≡ printed.state_line manager state) }
 {
     let state = state_text(state);
     let text = format!(in alloc; ": manager {manager} is {state}")?;
-    Ok(text.into_bytes())
+    Ok(Bytes::from_vec(text.into_bytes()))
 }
 
 /// The state as the standard names it.
@@ -57,7 +69,7 @@ fn state_text(state: ManagerState) -> &'static str
     }
 }
 
-/// Since when a manager is in its state, and by which call.
+/// Since when that is so, and by which call.
 fn since_text(
     alloc: Global,
     since: Option<Since>,

@@ -1,11 +1,11 @@
-//! The manager that an entry brings to another state.
+//! What a command sets.
 ghost use Rattle.std.specs.Prelude.{◌≡◌, IfOk, Some, None, if◌then◌else◌, option_copied};
 ghost use Rattle.history_standing.specs.Arrivals as called;
 ghost use Rattle.history_standing.specs.Logs as logs;
-ghost use Rattle.journal_explain.specs.Managers as managers;
-ghost use Rattle.journal_explain.specs.Watching as watching;
+ghost use Rattle.journal_explain.specs.Origins as origins;
 
 use crate::facing::{call_of, state_of};
+use crate::setting::Setting;
 use core_run::Run;
 use core_standing::asked_commands::{command_in, is_accepted};
 use history_standing::templates::manager_number;
@@ -24,20 +24,23 @@ pub(crate) fn command_done<'a>(run: &'a Run, arrival: u64, verdict: &Verdict) ->
     }
 }
 
-/// The manager that a command brings to another state, where it is done next. Fails where its number has more than 32 bits.
-pub(crate) fn turned_by(run: &Run, command: Option<&Command>) -> Result<Option<u32>, WantMemory>
-    ensures { IfOk result (λ manager. manager
-        ≡ watching.turned_by run.now.config run.now.history (option_copied command.entry)) }
+/// What a command sets, where it is done next. Fails where the number of its manager has more than 32 bits.
+pub(crate) fn set_by(run: &Run, command: Option<&Command>) -> Result<Option<Setting>, WantMemory>
+    ensures { IfOk result (λ setting. setting
+        ≡ origins.set_by run.now.config run.now.history (option_copied command.entry)) }
 {
     match command {
-        Some(Command::Manager { manager, order }) => turned_to(run, manager, *order),
+        Some(Command::Manager { manager, order }) => turned_by(run, manager, *order),
+        Some(Command::Preset { path, .. }) => Ok(Some(Setting::DefaultServant(path.clone()?))),
+        Some(Command::Forward { path, .. }) => Ok(Some(Setting::Endpoint(path.clone()?))),
+        Some(Command::Unforward { path }) => Ok(Some(Setting::Endpoint(path.clone()?))),
         _ => Ok(None),
     }
 }
 
 /// So does an order to the manager of this name.
-fn turned_to(run: &Run, name: &Name, order: Order) -> Result<Option<u32>, WantMemory>
-    ensures { IfOk result (λ manager. manager ≡ watching.turned_by run.now.config run.now.history
+fn turned_by(run: &Run, name: &Name, order: Order) -> Result<Option<Setting>, WantMemory>
+    ensures { IfOk result (λ setting. setting ≡ origins.set_by run.now.config run.now.history
         (Some (Command.Manager name.now order))) }
 {
     let Some(number) = manager_number(run.config(), name) else {
@@ -45,7 +48,7 @@ fn turned_to(run: &Run, name: &Name, order: Order) -> Result<Option<u32>, WantMe
     };
     let manager = u32::try_from(number).map_err(|_| WantMemory)?;
     if turns(state_of(run, manager), order) {
-        Ok(Some(manager))
+        Ok(Some(Setting::Manager(manager)))
     } else {
         Ok(None)
     }
@@ -53,7 +56,7 @@ fn turned_to(run: &Run, name: &Name, order: Order) -> Result<Option<u32>, WantMe
 
 /// Whether an order brings a manager from this state to another.
 fn turns(state: ManagerState, order: Order) -> bool
-    ensures { result ≡ managers.turns state (Some order) }
+    ensures { result ≡ origins.turns state order }
 {
     match (order, state) {
         (Order::Activate, ManagerState::Active)
