@@ -8,6 +8,7 @@ mod Begun
 mod Going
 mod Beginning
 mod Looked
+mod Unspoken
 mod Watched
 mod AtFirst
 mod Decided

@@ -3,11 +3,12 @@ use Rattle.std.specs.Prelude.{◌≡◌, ℕ, ◌==◌, nat_lt, length, Bool, tr
 use Rattle.std.specs.List.{AllZip}
 use Rattle.poa_base.specs.declared.Call.{Call}
 use Rattle.poa_base.specs.declared.Entry.{Entry}
-use Rattle.poa_base.specs.declared.Entry.TheVariants.{Arrive, Collect}
+use Rattle.poa_base.specs.declared.Entry.TheVariants.{Arrive, Collect, Admit, Tried, Incarnated, Run, Done}
 use Rattle.history_standing.specs.declared.activation.Activation.{Activation}
 use Rattle.history_standing.specs.Arrivals.{arrivals}
 use Rattle.history_standing.specs.Keys.{key_in}
 use Rattle.history_standing.specs.Opening.{opening}
+use Rattle.history_standing.specs.Stages.{arrival_in, is_at, stage}
 use Rattle.history_standing.specs.Standings.{is_active}
 use Rattle.poa_history.specs.Life.{Life, opened}
 use Rattle.journal_audit.specs.Judging.{Follows}
@@ -115,6 +116,20 @@ pub record IsServed (past : Life) (e : Entry) (old new : Trail) : Type 0 where
   pub wait : new.wait ≡ old.wait
   pub server : new.server ≡ server_with e old.name.arrival old.server
   pub active : new.active ≡ serves past.config past.run past.history new.server
+
+-- what the worker has begun is for the call
+abbrev pub is_working : List Entry → ℕ → ℕ → Bool
+is_working past w r = is_at r (arrival_in (stage past w))
+
+-- an entry speaks of the call, after the entries before it; to every other call it is nothing
+abbrev pub speaks_of : List Entry → Entry → ℕ → Bool
+speaks_of past (Arrive conn size call) r = arrivals past == r
+speaks_of past (Admit w a verdict) r = a == r
+speaks_of past (Tried w answer) r = is_working past w r
+speaks_of past (Incarnated w answer) r = is_working past w r
+speaks_of past (Run w) r = is_working past w r
+speaks_of past (Done w) r = is_working past w r
+speaks_of past e r = false
 
 -- what the next entry of a run, at this place, is to the call, by the rows of what is set; where it has it served, this entry
 -- began the activation that serves it

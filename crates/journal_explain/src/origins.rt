@@ -115,6 +115,7 @@ fn row_of<'a>(rows: &'a [Origin], setting: &Setting) -> Option<&'a Origin>
 }
 
 /// Notes that the entry at this place admits a call with this verdict.
+#[inline(never)]
 fn note_admitted(
     run: &Run,
     place: u64,

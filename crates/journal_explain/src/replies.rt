@@ -1,5 +1,5 @@
 //! The replies that are collected.
-ghost use Rattle.std.specs.Prelude.{◌≡◌, IfOk, None, if◌then◌else◌};
+ghost use Rattle.std.specs.Prelude.{◌≡◌, IfOk, None, if◌then◌else◌, is_some};
 ghost use Rattle.journal_explain.specs.Watching as watching;
 
 use crate::event::Event;
@@ -18,6 +18,16 @@ pub(crate) fn given_by(collects: bool, given: Option<Filed>) -> Option<Filed>
     ensures { result ≡ (if collects then given else None) }
 {
     if collects { given } else { None }
+}
+
+/// Whether a reply was collected that is one to the call of this arrival.
+pub(crate) fn is_to(given: &Option<Filed>, arrival: u64) -> bool
+    ensures { result ≡ is_some (watching.handed_to given.now arrival) }
+{
+    match given {
+        Some(filed) => filed.arrival == arrival,
+        None => false,
+    }
 }
 
 /// The reply that was collected, where it is one to the call of this arrival.

@@ -1,5 +1,5 @@
 //! The activation by which a request is served.
-ghost use Rattle.std.specs.Prelude.{◌≡◌, ◌&&◌, not};
+ghost use Rattle.std.specs.Prelude.{◌≡◌, ◌&&◌, not, is_some};
 ghost use Rattle.journal_explain.specs.Serving as serving;
 
 use crate::activity::is_serving;
@@ -56,6 +56,17 @@ pub(crate) fn serves(run: &Run, server: Option<u32>) -> bool
 {
     match server {
         Some(number) => is_serving(run, number),
+        None => false,
+    }
+}
+
+/// Whether an activation ends with an entry, by whether it was active before it and the run behind it.
+pub(crate) fn ends(run: &Run, server: Option<u32>, active: bool) -> bool
+    ensures { result ≡ is_some (serving.ended_where server active
+        (serving.serves run.now.config run.now.run run.now.history server)) }
+{
+    match server {
+        Some(number) => has_ended(run, number, active),
         None => false,
     }
 }

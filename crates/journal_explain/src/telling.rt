@@ -2,6 +2,7 @@
 ghost use Rattle.std.specs.Prelude.{◌≡◌, ◌==◌, ◌<◌, IfOk, Some, None, if◌then◌else◌};
 ghost use Rattle.journal_audit.specs.Judging.{Follows};
 ghost use Rattle.journal_explain.specs.Stories as stories;
+ghost use Rattle.journal_explain.specs.Watching as watching;
 
 use crate::deciding::row_of;
 use crate::event::Event;
@@ -17,6 +18,32 @@ use std::alloc::Global;
 
 /// How many workers a run has.
 const WORKERS: u32 = 16;
+
+/// Whether the next entry of a run, where it may follow, speaks of a call.
+pub(crate) fn speaks(run: &Run, entry: &Entry, arrival: u64) -> bool
+    ensures { Follows run.now entry.now
+        → result ≡ watching.speaks_of run.now.history entry.now arrival }
+{
+    match entry {
+        Entry::Arrive { .. } => run.arrivals() == arrival,
+        Entry::Admit {
+            arrival: admitted,
+            ..
+        } => *admitted == arrival,
+        Entry::Tried { worker, .. }
+        | Entry::Incarnated { worker, .. }
+        | Entry::Run { worker }
+        | Entry::Done { worker } => is_working(run, *worker, arrival),
+        _ => false,
+    }
+}
+
+/// Whether what the worker has begun is for the call.
+fn is_working(run: &Run, worker: u32, arrival: u64) -> bool
+    ensures { worker < WORKERS → result ≡ watching.is_working run.now.history worker arrival }
+{
+    worker < WORKERS && is_at(arrival, arrival_in(run.stage(worker)))
+}
 
 /// What the next entry of a run, where it may follow, is to a call, beside the reply that is collected with it.
 pub(crate) fn event_of(
@@ -71,7 +98,7 @@ fn same(spoken: u64, arrival: u64, event: Event) -> Option<Event>
 fn at_work(run: &Run, worker: u32, arrival: u64, event: Event) -> Option<Event>
     ensures { worker < WORKERS → result ≡ stories.at_work run.now.history worker arrival event }
 {
-    if worker < WORKERS && is_at(arrival, arrival_in(run.stage(worker))) {
+    if is_working(run, worker, arrival) {
         Some(event)
     } else {
         None

@@ -7,7 +7,7 @@ ghost use Rattle.journal_explain.specs.declared.step.Step.{Step as StepOf};
 use crate::adapter::Adapter;
 use crate::call_name::CallName;
 use crate::event::Event;
-use crate::replies::handed_to;
+use crate::replies::{handed_to, is_to};
 use crate::step::Step;
 use crate::tenure::Tenure;
 use crate::wait::Wait;
@@ -79,6 +79,17 @@ impl Trail {
 
     /// Notes the reply that was collected with the entry at this place, where it is one to the call.
     pub(crate) fn get(&mut self, entry: u64, given: &Option<Filed>) -> Result<(), WantMemory>
+        ensures { OnOk result (Gets given.now entry self.old self.new) }
+    {
+        if is_to(given, self.name.arrival) {
+            return self.put_reply(entry, given);
+        }
+        Ok(())
+    }
+
+    /// The same of a reply that is one to the call, if any is.
+    #[inline(never)]
+    fn put_reply(&mut self, entry: u64, given: &Option<Filed>) -> Result<(), WantMemory>
         ensures { OnOk result (Gets given.now entry self.old self.new) }
     {
         let told = handed_to(given, self.name.arrival)?;

@@ -1,7 +1,11 @@
 //! The trails of the calls that are asked for.
-ghost use Rattle.std.specs.Prelude.{◌≡◌, OnOk};
+ghost use Rattle.std.specs.Prelude.{◌≡◌, Some, OnOk};
 ghost use Rattle.std.specs.List.{AllZip};
-ghost use Rattle.journal_explain.specs.Watching.{Begins, Gets, IsServed, Looks, Notes};
+ghost use Rattle.history_standing.specs.Arrivals.{arrivals};
+ghost use Rattle.history_standing.specs.Keys.{key_in};
+ghost use Rattle.journal_explain.specs.Adapters as adapter_of;
+ghost use Rattle.journal_explain.specs.Serving.{server_in};
+ghost use Rattle.journal_explain.specs.Watching.{Begins, BeginsOne, Gets, IsServed, Looks, Notes};
 
 use crate::adapter::adapter_at;
 use crate::call_name::CallName;
@@ -10,12 +14,12 @@ use crate::next::Next;
 use crate::origins::Origins;
 use crate::ruling::{holder, ruler};
 use crate::selection::Selection;
-use crate::server::{ended, server_with, serves};
-use crate::telling::event_of;
+use crate::server::{ended, ends, server_with, serves};
+use crate::telling::{event_of, speaks};
 use crate::trail::Trail;
 use core_outboxes::Filed;
 use core_run::Run;
-use poa_base::{Entry, TryClone, WantMemory};
+use poa_base::{Call, Entry, TryClone, WantMemory};
 use std::alloc::Global;
 
 /// Begins the trail of the call that arrives with the next entry of a run, at this place, where it is asked for.
@@ -32,13 +36,29 @@ pub(crate) fn begin(
     if let Entry::Arrive { conn, call, .. } = entry {
         let name = CallName::of(run.arrivals(), *conn, call);
         if asked.asks(name, place) {
-            run.keeps_laws();
-            let adapter = adapter_at(alloc, run, call)?;
-            let call = call.try_clone()?;
-            trails.push(Trail::new(alloc, name, call, adapter))?;
+            return begin_one(alloc, run, name, call, trails);
         }
     }
     Ok(())
+}
+
+/// Begins the trail of the call that arrives next in a run under this name.
+#[inline(never)]
+fn begin_one(
+    alloc: Global,
+    run: &Run,
+    name: CallName,
+    call: &Call,
+    trails: &mut Vec<Trail>,
+) -> Result<(), WantMemory>
+    ensures { OnOk result (BeginsOne name call.now
+        (adapter_of.adapter_at run.now.config run.now.run run.now.history (key_in (Some call.now)))
+        (server_in run.now.history (arrivals run.now.history)) trails.old.items trails.new.items) }
+{
+    run.keeps_laws();
+    let adapter = adapter_at(alloc, run, call)?;
+    let call = call.try_clone()?;
+    Ok(trails.push(Trail::new(alloc, name, call, adapter))?)
 }
 
 /// Notes what the next entry of a run, where it may follow, is to each call.
@@ -60,6 +80,26 @@ pub(crate) fn note_each(
 }
 
 fn note(
+    alloc: Global,
+    run: &Run,
+    next: &Next<'_>,
+    origins: &Origins,
+    trail: &mut Trail,
+) -> Result<(), WantMemory>
+    ensures { OnOk result
+        (Notes run.now next.now.entry.now next.now.place next.now.begun origins.now
+        trail.old trail.new) }
+{
+    if speaks(run, next.entry, trail.name.arrival) {
+        return note_spoken(alloc, run, next, origins, trail);
+    }
+    serve(run, next.entry, trail);
+    Ok(())
+}
+
+/// The same of an entry that speaks of the call. It stands by itself, so that of the others nothing is got ready for it.
+#[inline(never)]
+fn note_spoken(
     alloc: Global,
     run: &Run,
     next: &Next<'_>,
@@ -119,6 +159,24 @@ pub(crate) fn look_at_each(
 }
 
 fn look(
+    alloc: Global,
+    run: &Run,
+    place: u64,
+    origins: &Origins,
+    trail: &mut Trail,
+) -> Result<(), WantMemory>
+    ensures { OnOk result (Looks run.now place origins.now trail.old trail.new) }
+{
+    let wait = wait_of(alloc, run, trail.name.arrival)?;
+    if wait == trail.wait && !ends(run, trail.server, trail.active) {
+        return Ok(());
+    }
+    look_closer(alloc, run, place, origins, trail)
+}
+
+/// The same where something changed.
+#[inline(never)]
+fn look_closer(
     alloc: Global,
     run: &Run,
     place: u64,
